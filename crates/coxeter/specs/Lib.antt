@@ -1,0 +1,11 @@
+pub mod Numbers
+pub mod Groups
+pub mod Tables
+pub mod Matrices
+pub mod Pairs
+pub mod Moves
+pub mod Points
+pub mod Forms
+pub mod Lengths
+pub mod Theorems
+pub mod Examples
