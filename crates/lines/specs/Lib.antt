@@ -1,0 +1,9 @@
+pub mod Cuts
+pub mod Faults
+pub mod Laws
+pub mod Letters
+pub mod Lines
+pub mod Located
+pub mod Places
+pub mod Reading
+pub mod Words
