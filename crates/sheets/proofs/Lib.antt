@@ -1,0 +1,15 @@
+pub mod FirstExponent
+pub mod RowReading
+pub mod Columns
+pub mod Spelling
+pub mod LawfulRows
+pub mod RowTexts
+pub mod StageTexts
+pub mod LineCounts
+pub mod OneStep
+pub mod OneAnswer
+pub mod TableRows
+pub mod SheetTexts
+pub mod StageSteps
+pub mod Exits
+pub mod ReadingSteps

@@ -1,0 +1,10 @@
+pub mod Rows
+pub mod Fitting
+pub mod Filling
+pub mod Faults
+pub mod Kinds
+pub mod Texts
+pub mod Stages
+pub mod Drafts
+pub mod Reading
+pub mod Theorems
