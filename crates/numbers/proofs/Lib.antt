@@ -1,0 +1,3 @@
+pub mod Products
+pub mod Fitting
+pub mod Exponents
