@@ -1,0 +1,5 @@
+pub mod Values
+pub mod Exponents
+pub mod Standing
+pub mod Chambers
+pub mod Exchanges

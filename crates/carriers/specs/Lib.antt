@@ -1,0 +1,10 @@
+pub mod Faults
+pub mod Frames
+pub mod Carriers
+pub mod Rows
+pub mod Tables
+pub mod Steps
+pub mod Openings
+pub mod Lines
+pub mod Chambers
+pub mod OneLines
