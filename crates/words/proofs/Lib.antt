@@ -1,0 +1,9 @@
+pub mod Readings
+pub mod Ways
+pub mod Bits
+pub mod Inserting
+pub mod Determined
+pub mod TakingOff
+pub mod Answering
+pub mod Comparing
+pub mod FormsDetermined
