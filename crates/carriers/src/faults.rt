@@ -30,7 +30,9 @@ pub impl Refusal for StepFault as StepFaultRefusal {
     }
 
     fn place(&self) -> usize {
-        0
+        match self {
+            StepFault::Letter | StepFault::Reach => 0,
+        }
     }
 
     fn layer(&self) -> Layer {
@@ -62,7 +64,9 @@ pub impl Refusal for OpenFault as OpenFaultRefusal {
     }
 
     fn place(&self) -> usize {
-        0
+        match self {
+            OpenFault::Short | OpenFault::Kind => 0,
+        }
     }
 
     fn layer(&self) -> Layer {
