@@ -1,4 +1,7 @@
 //! Answers: the lines that the program prints, made of values.
+
+#![tactic(auto)]
+
 ghost use Rattle.std.specs.Prelude.{◌≡◌, ℕ, length, IfOk, string_bytes};
 ghost use Rattle.coxeter.specs.Matrices.{matrix};
 ghost use Rattle.answers.specs.Texts.{refusal_text, group_text, descents_text, form_text, number_text, yes_no, GroupAnswer, DescentsAnswer};

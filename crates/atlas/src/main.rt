@@ -1,4 +1,7 @@
 //! The program `atlas`: reads a sheet and jobs from standard input, and prints the answers.
+
+#![tactic(auto)]
+
 ghost use Rattle.std.specs.Prelude.{◌+◌, length};
 ghost use Rattle.coxeter.specs.Groups.{rank as rank_of};
 ghost use Rattle.coxeter.specs.Matrices.{matrix};

@@ -1,5 +1,7 @@
 //! Carriers: what stands for one element of one group, the chamber, and one-line notation.
 
+#![tactic(auto)]
+
 pub mod carrier;
 pub mod chamber;
 mod coefficients;

@@ -1,5 +1,7 @@
 //! Jobs: from a job's line to the line that answers it.
 
+#![tactic(auto)]
+
 pub mod answering;
 pub mod faults;
 pub mod letters;

@@ -1,5 +1,7 @@
 //! The lines of an input: a reader that hands them out, their keys and values, and the faults of lines.
 
+#![tactic(auto)]
+
 pub mod bytes;
 pub mod faults;
 mod jobs;

@@ -1,5 +1,7 @@
 //! Kinds of exact number: the trait that each of them keeps, whole numbers, and golden numbers a + b φ.
 
+#![tactic(auto)]
+
 pub mod coefficient;
 pub mod golden;
 pub mod number;

@@ -1,5 +1,7 @@
 //! Sheets: the lines that describe a group and a kind, read one after another.
 
+#![tactic(auto)]
+
 pub mod draft_lines;
 pub mod drafts;
 pub mod faults;

@@ -1,5 +1,7 @@
 //! Calls over words, on every carrier.
 
+#![tactic(auto)]
+
 pub mod calls;
 pub mod descents;
 pub mod elements;

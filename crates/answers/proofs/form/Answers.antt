@@ -15,11 +15,11 @@ one_more front w i h =
 
 pub loop-s-preserved : goal.loop-s-preserved
 loop-s-preserved c =
-    c.in-ok-push-str.ensures.bytes ∙ (λ i. c.loop-s.invariant i ++ (c.as-str.ensures.value ∙ c.in-ok-digit.ensures.ok) i)
+    c.in_ok-push_str.ensures.bytes ∙ (λ i. c.loop-s.invariant i ++ (c.as_str.ensures.value ∙ c.in_ok-digit.ensures.ok) i)
     ∙ one_more (c.args.key.now ++ codes "=") c.args.letters.now c.loop-s.s-index c.loop-s-test.true
 
 pub returns : goal.returns
 returns c =
-    c.in-ok-push-str-2.ensures.bytes
+    c.in_ok-push_str-2.ensures.bytes
     ∙ ap (λ l. l ++ codes "\n") (c.loop-s.invariant ∙ ap (λ l. (c.args.key.now ++ codes "=") ++ letters_text l) (take_all c.loop-s.s-index c.args.letters.now c.loop-s-test.false))
     ∙ append_assoc (c.args.key.now ++ codes "=") (letters_text c.args.letters.now) (codes "\n")

@@ -11,8 +11,8 @@ pub loop-a-preserved : goal.loop-a-preserved
 loop-a-preserved c = (
   simp length-set c.loop-a.invariant.0,
   below_more _ _
-      (λ k h. let ne : k ≢ c.loop-a.a = omega arith in ap worth (get_or-set_other c.loop-a.column c.loop-a.a k c.of-exponent.result zero ne) ∙ c.loop-a.invariant.1 k h)
-      (ap worth (get_or-set_same c.loop-a.column c.loop-a.a c.of-exponent.result zero (omega (arith, c.loop-a.invariant.0))) ∙ c.of-exponent.ensures ∙ coefficient_answered c.args.group.now.rank c.args.group.now.rows (c.loop-a.a + 1) c.args.s c.exponent.result (omega arith) (omega arith) (omega arith) (omega arith) c.exponent.ensures),
+      (λ k h. let ne : k ≢ c.loop-a.a = omega arith in ap worth (get_or-set_other c.loop-a.column c.loop-a.a k c.of_exponent.result zero ne) ∙ c.loop-a.invariant.1 k h)
+      (ap worth (get_or-set_same c.loop-a.column c.loop-a.a c.of_exponent.result zero (omega (arith, c.loop-a.invariant.0))) ∙ c.of_exponent.ensures ∙ coefficient_answered c.args.group.now.rank c.args.group.now.rows (c.loop-a.a + 1) c.args.s c.exponent.result (omega arith) (omega arith) (omega arith) (omega arith) c.exponent.ensures),
 )
 
 pub returns : goal.returns

@@ -5,7 +5,7 @@ use Rattle.jobs.proofs.letters.letters.Goals as goal
 
 pub loop-byte-preserved : goal.loop-byte-preserved
 loop-byte-preserved c =
-    c.in-ok-push.ensures.items ∙ (λ i. c.loop-byte.invariant i ++ c.letter.ensures i ∷ [])
+    c.in_ok-push.ensures.items ∙ (λ i. c.loop-byte.invariant i ++ c.letter.ensures i ∷ [])
     ∙ sym (map_more letter_of c.args.bytes.now c.loop-byte.byte-index 0 c.loop-byte-test.true)
 
 pub returns : goal.returns

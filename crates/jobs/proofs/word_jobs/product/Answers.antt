@@ -3,12 +3,12 @@ use Rattle.words.specs.Outcomes.{Written}
 use Rattle.jobs.proofs.CallAnswers.{anyway, written_fits}
 use Rattle.jobs.proofs.word_jobs.product.Goals as goal
 
-pub form-line-requires : goal.form-line-requires
-form-line-requires g c = written_fits c.product-answer.result c.product-answer.ensures.written
+pub form_line-requires : goal.form_line-requires
+form_line-requires g c = written_fits c.product-answer.result c.product-answer.ensures.written
 
 pub returns : goal.returns
 returns g c = record {
   same = c.product-answer.ensures.same;
-  here = anyway c.form-line.result c.product-answer.ensures.here;
-  answered = c.form-line.ensures _ _ _ refl (subst₂ (λ u v. Written (g.C.Carrier.frame c.args.carrier.now) (u ++ v) _ c.product-answer.new.out c.product-answer.result) (c.as-slice.ensures.value ∙ c.in-ok-u.ensures) (c.as-slice-2.ensures.value ∙ c.in-ok-v.ensures) c.product-answer.ensures.written);
+  here = anyway c.form_line.result c.product-answer.ensures.here;
+  answered = c.form_line.ensures _ _ _ refl (subst₂ (λ u v. Written (g.C.Carrier.frame c.args.carrier.now) (u ++ v) _ c.product-answer.new.out c.product-answer.result) (c.as_slice.ensures.value ∙ c.in_ok-u.ensures) (c.as_slice-2.ensures.value ∙ c.in_ok-v.ensures) c.product-answer.ensures.written);
 }

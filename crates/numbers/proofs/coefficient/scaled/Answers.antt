@@ -14,8 +14,8 @@ product c =
     let q : held c.args.x ≡ c.args.x = to_z-of_z w64 c.args.x c.ranges.x in
     λ i. p i *ℤ q i
 
-pub overflow-mul-result : goal.overflow-mul-result
-overflow-mul-result c = subst (SFits w64) (sym (product c)) (small_fits 128000000000000 (c.args.k *ℤ c.args.x) (lit≤ tt) (small c))
+pub overflow_mul-result : goal.overflow_mul-result
+overflow_mul-result c = subst (SFits w64) (sym (product c)) (small_fits 128000000000000 (c.args.k *ℤ c.args.x) (lit≤ tt) (small c))
 
 pub returns : goal.returns
 returns c =

@@ -3,8 +3,8 @@ use Rattle.std.proofs.lemmas.Int.{ints, to_z-of_z}
 use Rattle.numbers.proofs.Products.{square_bounds, square_fits}
 use Rattle.numbers.proofs.golden.square.Goals as goal
 
-pub overflow-mul-result : goal.overflow-mul-result
-overflow-mul-result c = rw (to_z-of_z w64 c.args.x c.ranges.x) (square_fits c.args.x c.requires.0 c.requires.1)
+pub overflow_mul-result : goal.overflow_mul-result
+overflow_mul-result c = rw (to_z-of_z w64 c.args.x c.ranges.x) (square_fits c.args.x c.requires.0 c.requires.1)
 
 pub returns : goal.returns
 returns c =

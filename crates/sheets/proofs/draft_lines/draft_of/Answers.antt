@@ -4,8 +4,8 @@ use Rattle.sheets.proofs.StageSteps.{drafted_rows, drafted_kind}
 use Rattle.sheets.specs.Filling.{Filled}
 use Rattle.sheets.proofs.draft_lines.draft_of.Goals as goal
 
-pub invariant-of-result : goal.invariant-of-result
-invariant-of-result c = (c.requires.size.0, (c.requires.size.1, (c.if-done-rank.true, (∣ c.requires.filled ∣₁, tt))))
+pub invariant_of-result : goal.invariant_of-result
+invariant_of-result c = record { some = c.requires.size.0; few = c.requires.size.1; left = c.if-done-rank.true; filled = ∣ c.requires.filled ∣₁ }
 
 pub make-requires : goal.make-requires
 make-requires c =

@@ -11,20 +11,20 @@ loop-line-init c = leads_nowhere _ _ (draft_reached c.args.draft)
 
 pub loop-line-preserved : goal.loop-line-preserved
 loop-line-preserved c =
-    MatchResult-at_ok _ (RefusedFrom (rows_stage c.args.draft) c.args.reader.now c.next-line.new.reader) _ (c.in-ok-more.was ∙ ap Ok c.in-Rows.is)
-    (stage_answer c.loop-line.invariant c.in-ok-line.ensures.line c.row.result draft_stage c.at.ensures c.row.ensures)
+    MatchResult-at_ok _ (RefusedFrom (rows_stage c.args.draft) c.args.reader.now c.next_line.new.reader) _ (c.in_ok-more.was ∙ ap Ok c.in-Rows.is)
+    (stage_answer c.loop-line.invariant c.in_ok-line.ensures.line c.row.result draft_stage c.at.ensures c.row.ensures)
 
 pub returns-in-Kind : goal.returns-in-Kind
 returns-in-Kind c =
-    MatchResult-at_ok _ (RefusedFrom (rows_stage c.args.draft) c.args.reader.now c.next-line.new.reader) _ (c.in-ok-more.was ∙ ap Ok c.in-Kind.is)
-    (stage_answer c.loop-line.invariant c.in-ok-line.ensures.line c.row.result draft_stage c.at.ensures c.row.ensures)
+    MatchResult-at_ok _ (RefusedFrom (rows_stage c.args.draft) c.args.reader.now c.next_line.new.reader) _ (c.in_ok-more.was ∙ ap Ok c.in-Kind.is)
+    (stage_answer c.loop-line.invariant c.in_ok-line.ensures.line c.row.result draft_stage c.at.ensures c.row.ensures)
 
-pub returns-in-err-line : goal.returns-in-err-line
-returns-in-err-line c =
-    exit _ (RefusedFrom (rows_stage c.args.draft) c.args.reader.now c.next-line.new.reader) c.in-err-line.field-0.0 c.from-residual.result c.from-residual.ensures.1
-    (refused_unfinished c.loop-line.invariant c.in-err-line.ensures.line)
+pub returns-in_err-line : goal.returns-in_err-line
+returns-in_err-line c =
+    exit _ (RefusedFrom (rows_stage c.args.draft) c.args.reader.now c.next_line.new.reader) c.in_err-line.field-0.0 c.from_residual.result c.from_residual.ensures.1
+    (refused_unfinished c.loop-line.invariant c.in_err-line.ensures.line)
 
-pub returns-in-err-more : goal.returns-in-err-more
-returns-in-err-more c =
-    exit _ (RefusedFrom (rows_stage c.args.draft) c.args.reader.now c.next-line.new.reader) c.in-err-more.field-0.0 c.from-residual-in-err-more.result c.from-residual-in-err-more.ensures.1
-    (MatchResult-at_err _ _ _ c.in-err-more.was (stage_answer c.loop-line.invariant c.in-ok-line.ensures.line c.row.result draft_stage c.at.ensures c.row.ensures))
+pub returns-in_err-more : goal.returns-in_err-more
+returns-in_err-more c =
+    exit _ (RefusedFrom (rows_stage c.args.draft) c.args.reader.now c.next_line.new.reader) c.in_err-more.field-0.0 c.from_residual-in_err-more.result c.from_residual-in_err-more.ensures.1
+    (MatchResult-at_err _ _ _ c.in_err-more.was (stage_answer c.loop-line.invariant c.in_ok-line.ensures.line c.row.result draft_stage c.at.ensures c.row.ensures))

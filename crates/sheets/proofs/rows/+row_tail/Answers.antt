@@ -20,11 +20,11 @@ tail-returns-then-s-eq0 t c = subst₂ (Spells after_text) (sym (nil_from_length
 pub tail-returns-else-s-eq0 : goal.tail-returns-else-s-eq0
 tail-returns-else-s-eq0 t c = subst (λ n. Stops after_text n c.args.s.now 0) (sym c.if-out-eq0.true) (tail_more c.args.s.now (omega arith))
 
-pub tail-returns-in-default : goal.tail-returns-in-default
-tail-returns-in-default t c = tail_space _ _ (omega arith) (omega (arith, ltb-true, ltb-false))
+pub tail-returns-in_default : goal.tail-returns-in_default
+tail-returns-in_default t c = tail_space _ _ (omega arith) (omega (arith, ltb-true, ltb-false))
 
-pub tail-returns-in-default·2 : goal.tail-returns-in-default·2
-tail-returns-in-default·2 t c = tail_space _ _ (omega arith) (omega (arith, ltb-true, ltb-false))
+pub tail-returns-in_default·2 : goal.tail-returns-in_default·2
+tail-returns-in_default·2 t c = tail_space _ _ (omega arith) (omega (arith, ltb-true, ltb-false))
 
 pub tail-returns-in-Ok : goal.tail-returns-in-Ok
 tail-returns-in-Ok t c = tail_ok _ _ (omega (arith, ltb-true, ltb-false)) (omega arith) (omega (arith, c.row.auto.out)) c.in-Ok.ensures

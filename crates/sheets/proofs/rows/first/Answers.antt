@@ -14,5 +14,5 @@ returns-in-105-3 c = search (rules, halts_i)
 pub returns-in-49-to-54 : goal.returns-in-49-to-54
 returns-in-49-to-54 c = search (rules, opens_digit)
 
-pub returns-in-default : goal.returns-in-default
-returns-in-default c = search (rules, halts_none)
+pub returns-in_default : goal.returns-in_default
+returns-in_default c = search (rules, halts_none)

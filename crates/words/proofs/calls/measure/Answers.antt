@@ -5,8 +5,8 @@ use Rattle.words.proofs.calls.measure.Goals as goal
 
 pub returns : goal.returns
 returns g c = record {
-  same = c.read-form.ensures.same;
-  laws = c.read-form.ensures.laws;
-  here = c.read-form.ensures.here;
-  measured = measured_of (g.C.Carrier.frame c.args.carrier.now) (letters_of c.args.view) c.read-form.new.letters c.read-form.result (omega arith) c.read-form.ensures.read;
+  same = c.read_form.ensures.same;
+  laws = c.read_form.ensures.laws;
+  here = c.read_form.ensures.here;
+  measured = measured_of (g.C.Carrier.frame c.args.carrier.now) (letters_of c.args.view) c.read_form.new.letters c.read_form.result (omega arith) c.read_form.ensures.read;
 }

@@ -8,8 +8,8 @@ pub loop-i-preserved : goal.loop-i-preserved
 loop-i-preserved g c =
     let m = c.in-Ok.ensures.read.told in
     let k = m.0 in let j = m.1.entered.few in (
-      reversed_more c.loop-i.out c.read-form.new.letters c.in-Ok.n c.loop-i.i (omega arith) (omega arith) (omega arith) c.loop-i.invariant.0,
-      drop-set-lt c.in-Ok.n c.loop-i.out c.loop-i.i (get_or c.read-form.new.letters (c.in-Ok.n - 1 - c.loop-i.i) 0) (omega arith) ∙ c.loop-i.invariant.1,
+      reversed_more c.loop-i.out c.read_form.new.letters c.in-Ok.n c.loop-i.i (omega arith) (omega arith) (omega arith) c.loop-i.invariant.0,
+      drop-set-lt c.in-Ok.n c.loop-i.out c.loop-i.i (get_or c.read_form.new.letters (c.in-Ok.n - 1 - c.loop-i.i) 0) (omega arith) ∙ c.loop-i.invariant.1,
     )
 
 pub returns-after-loop-i : goal.returns-after-loop-i
@@ -19,7 +19,7 @@ returns-after-loop-i g c =
       same = e.same;
       laws = e.laws;
       here = e.here;
-      written = written_ok (g.C.Carrier.frame c.args.carrier.now) (letters_of c.args.view) c.read-form.new.letters c.args.out.now c.loop-i.out c.in-Ok.n c.loop-i.i (omega arith) (omega arith) e.read (omega arith) (omega arith) c.loop-i.invariant.0 c.loop-i.invariant.1;
+      written = written_ok (g.C.Carrier.frame c.args.carrier.now) (letters_of c.args.view) c.read_form.new.letters c.args.out.now c.loop-i.out c.in-Ok.n c.loop-i.i (omega arith) (omega arith) e.read (omega arith) (omega arith) c.loop-i.invariant.0 c.loop-i.invariant.1;
     }
 
 pub returns-in-Err : goal.returns-in-Err

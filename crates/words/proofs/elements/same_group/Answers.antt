@@ -9,14 +9,14 @@ loop-s-init g c = λ a i h b k. absurd (omega arith)
 
 pub loop-s-preserved : goal.loop-s-preserved
 loop-s-preserved g c = λ a i h b k.
-    ⊎_elim (λ (e : a ≡ c.loop-s.s + 1). subst (λ (n : ℕ). answered_exponent (g.C.Carrier.frame c.args.c.now).group n b ≡ answered_exponent (g.D.Carrier.frame c.args.d.now).group n b) (sym e) (c.same-exponents.ensures.0 c.if-not-same-exponents.false b k))
+    ⊎_elim (λ (e : a ≡ c.loop-s.s + 1). subst (λ (n : ℕ). answered_exponent (g.C.Carrier.frame c.args.c.now).group n b ≡ answered_exponent (g.D.Carrier.frame c.args.d.now).group n b) (sym e) (c.same_exponents.ensures.0 c.if-not-same_exponents.false b k))
     (λ e. c.loop-s.invariant a i (omega arith) b k) (cases_eq a (c.loop-s.s + 1))
 
 pub returns-then-n-rank : goal.returns-then-n-rank
 returns-then-n-rank g c = never (λ e. c.if-n-rank.true (c.rank-n.ensures.told ∙ ap rank e ∙ sym c.rank.ensures.told))
 
-pub returns-then-not-same-exponents : goal.returns-then-not-same-exponents
-returns-then-not-same-exponents g c = never (λ e. both_ways c.same-exponents.result c.if-not-same-exponents.true (c.same-exponents.ensures.1 (λ b k. ap (λ (m : Matrix). answered_exponent m (c.loop-s.s + 1) b) e)))
+pub returns-then-not-same_exponents : goal.returns-then-not-same_exponents
+returns-then-not-same_exponents g c = never (λ e. both_ways c.same_exponents.result c.if-not-same_exponents.true (c.same_exponents.ensures.1 (λ b k. ap (λ (m : Matrix). answered_exponent m (c.loop-s.s + 1) b) e)))
 
 pub returns : goal.returns
 returns g c = (

@@ -55,5 +55,5 @@ returns g c =
     let i = c.loop-s.invariant in
     record {
       same = i.0;
-      taken = record { told = take_off_done g.C.Carrier.frame g.C.Carrier.at c.loop-s.carrier c.loop-s.carrier (g.C.Carrier.frame c.args.carrier.now) (letters_of c.args.view) c.loop-s.letters c.loop-s.n (omega arith) i.0 i.1 i.2 i.3 c.in-default.ensures };
+      taken = record { told = take_off_done g.C.Carrier.frame g.C.Carrier.at c.loop-s.carrier c.loop-s.carrier (g.C.Carrier.frame c.args.carrier.now) (letters_of c.args.view) c.loop-s.letters c.loop-s.n (omega arith) i.0 i.1 i.2 i.3 c.in_default.ensures };
     }

@@ -4,22 +4,22 @@ use Rattle.coxeter.proofs.Matrices.{cut_rank}
 use Rattle.carriers.proofs.Standing.{home_shows, fitting_exactly, chamber_laws}
 use Rattle.carriers.proofs.chamber.Chamber.make.Goals as goal
 
-pub invariant-of-result : goal.invariant-of-result
-invariant-of-result g c =
+pub invariant_of-result : goal.invariant_of-result
+invariant_of-result g c =
     let r = cut_rank c.args.group.rank c.args.group.rows in
     let p = c.requires.wide in
-    (omega arith, (∣ c.of-coefficients.ensures ∣₁, tt))
+    record { wide = omega arith; table = ∣ c.of-coefficients.ensures ∣₁ }
 
 pub returns : goal.returns
 returns g c =
     let r = cut_rank c.args.group.rank c.args.group.rows in
     let p = c.requires.wide in
-    let row = c.set-start.new.row in
+    let row = c.set_start.new.row in
     let w : c.args.group.rank ≤ length row = omega arith in
     record {
       frame = refl;
       laws = chamber_laws g.N.Number.value c.args.group row w g.N.Number.fits g.met.N.Number.unit g.met.N.Number.within;
-      home = home_shows g.N.Number.value c.args.group row w (λ i h. c.set-start.ensures.ones i (omega arith));
+      home = home_shows g.N.Number.value c.args.group row w (λ i h. c.set_start.ensures.ones i (omega arith));
       reach = λ v. fitting_exactly g.N.Number.fits (matrix c.args.group) v;
-      beyond = subst (λ (n : ℕ). drop n row ≡ drop n c.args.row.now) c.rank-n.ensures.told c.set-start.ensures.beyond;
+      beyond = subst (λ (n : ℕ). drop n row ≡ drop n c.args.row.now) c.rank-n.ensures.told c.set_start.ensures.beyond;
     }

@@ -12,8 +12,8 @@ loop-s-preserved c = (
   below_more _ _
       (λ k h.
       let ne : k ≢ c.loop-s.s = omega arith in
-      subst (λ (l : List Coefficient). Column (matrix c.args.group.now) (k + 1) l) (sym (get_or-set_other c.loop-s.columns c.loop-s.s k c.column-of.result [] ne)) (c.loop-s.invariant.1 k h))
-      (subst (λ (l : List Coefficient). Column (matrix c.args.group.now) (c.loop-s.s + 1) l) (sym (get_or-set_same c.loop-s.columns c.loop-s.s c.column-of.result [] (omega (arith, c.loop-s.invariant.0)))) c.column-of.ensures),
+      subst (λ (l : List Coefficient). Column (matrix c.args.group.now) (k + 1) l) (sym (get_or-set_other c.loop-s.columns c.loop-s.s k c.column_of.result [] ne)) (c.loop-s.invariant.1 k h))
+      (subst (λ (l : List Coefficient). Column (matrix c.args.group.now) (c.loop-s.s + 1) l) (sym (get_or-set_same c.loop-s.columns c.loop-s.s c.column_of.result [] (omega (arith, c.loop-s.invariant.0)))) c.column_of.ensures),
 )
 
 pub returns : goal.returns

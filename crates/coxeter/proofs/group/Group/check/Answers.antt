@@ -9,6 +9,6 @@ returns-then-rank-eq0 c = decides_false (λ h. omega (arith, cut_rank c.args.ran
 
 pub returns : goal.returns
 returns c = (
-  λ e. pairs_lawful c.args.rank c.args.rows.now (omega arith) (omega arith) (c.every-pair.ensures.0 e),
-  λ h. c.every-pair.ensures.1 (lawful_pairs (cut c.args.rank c.args.rows.now) h),
+  λ e. pairs_lawful c.args.rank c.args.rows.now (omega arith) (omega arith) (c.every_pair.ensures.0 e),
+  λ h. c.every_pair.ensures.1 (lawful_pairs (cut c.args.rank c.args.rows.now) h),
 )

@@ -2,7 +2,7 @@ use Rattle.std.proofs.Common.{arith}
 use Rattle.coxeter.proofs.Matrices.{cut_rank}
 use Rattle.coxeter.proofs.group.Group.make.Goals as goal
 
-pub invariant-of-result : goal.invariant-of-result
-invariant-of-result c =
+pub invariant_of-result : goal.invariant_of-result
+invariant_of-result c =
     let l = cut_rank c.args.rank c.args.rows in
-    (omega (arith, l, c.requires.lawful.some), (omega (arith, l, c.requires.lawful.few), (∣ c.requires.lawful ∣₁, tt)))
+    record { some = omega (arith, l, c.requires.lawful.some); few = omega (arith, l, c.requires.lawful.few); lawful = ∣ c.requires.lawful ∣₁ }

@@ -7,16 +7,16 @@ use Rattle.coxeter.proofs.Matrices.{cut_letter, letter_within}
 use Rattle.coxeter.proofs.PairRules.{Kept, before_next}
 use Rattle.coxeter.proofs.group.pairs.every_pair.Goals as goal
 
-pub returns-then-not-row-keeps : goal.returns-then-not-row-keeps
-returns-then-not-row-keeps g c =
+pub returns-then-not-row_keeps : goal.returns-then-not-row_keeps
+returns-then-not-row_keeps g c =
     let l = cut_letter c.args.rank c.args.rows.now c.loop-s.s (omega arith) (omega arith) in
-    decides_false (λ h. both_ways c.row-keeps.result c.if-not-row-keeps.true (c.row-keeps.ensures.1 (λ t k. h c.loop-s.s t l k)))
+    decides_false (λ h. both_ways c.row_keeps.result c.if-not-row_keeps.true (c.row_keeps.ensures.1 (λ t k. h c.loop-s.s t l k)))
 
-pub returns-else-not-row-keeps : goal.returns-else-not-row-keeps
-returns-else-not-row-keeps g c =
+pub returns-else-not-row_keeps : goal.returns-else-not-row_keeps
+returns-else-not-row_keeps g c =
     let n = c.args.rank in let rows = c.args.rows.now in (
       λ e a b j k. before_next (λ i. (m : ℕ) → Letter (cut n rows) m → Kept g.R.PairRule.keeps n rows i m) n rows c.loop-s.s c.loop-s.invariant
-          (c.row-keeps.ensures.0 c.if-not-row-keeps.false) a j (omega (arith, letter_within n rows a j)) b k,
+          (c.row_keeps.ensures.0 c.if-not-row_keeps.false) a j (omega (arith, letter_within n rows a j)) b k,
       λ h. refl,
     )
 

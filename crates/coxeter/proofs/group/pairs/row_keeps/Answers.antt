@@ -5,27 +5,27 @@ use Rattle.coxeter.proofs.Matrices.{cut_letter, letter_within}
 use Rattle.coxeter.proofs.PairRules.{Kept, kept_exponents, kept_places, before_next}
 use Rattle.coxeter.proofs.group.pairs.row_keeps.Goals as goal
 
-pub returns-then-not-is-kept : goal.returns-then-not-is-kept
-returns-then-not-is-kept g c =
+pub returns-then-not-is_kept : goal.returns-then-not-is_kept
+returns-then-not-is_kept g c =
     let n = c.args.rank in let rows = c.args.rows.now in let s = c.args.s in let t = c.loop-t.t in
     let l = cut_letter n rows s (omega arith) (omega arith) in
     let k = cut_letter n rows t (omega arith) (omega arith) in
-    decides_false (λ h. both_ways c.is-kept.result c.if-not-is-kept.true (c.is-kept.ensures.1 (kept_places g.R.PairRule.keeps n rows s t l k (h t k))))
+    decides_false (λ h. both_ways c.is_kept.result c.if-not-is_kept.true (c.is_kept.ensures.1 (kept_places g.R.PairRule.keeps n rows s t l k (h t k))))
 
 pub loop-t-preserved : goal.loop-t-preserved
 loop-t-preserved g c =
     let n = c.args.rank in let rows = c.args.rows.now in let s = c.args.s in let t = c.loop-t.t in
     let l = cut_letter n rows s (omega arith) (omega arith) in
     let k = cut_letter n rows t (omega arith) (omega arith) in
-    before_next (Kept g.R.PairRule.keeps n rows s) n rows t c.loop-t.invariant (kept_exponents g.R.PairRule.keeps n rows s t l k (c.is-kept.ensures.0 c.if-not-is-kept.false))
+    before_next (Kept g.R.PairRule.keeps n rows s) n rows t c.loop-t.invariant (kept_exponents g.R.PairRule.keeps n rows s t l k (c.is_kept.ensures.0 c.if-not-is_kept.false))
 
-pub returns-else-not-is-kept : goal.returns-else-not-is-kept
-returns-else-not-is-kept g c =
+pub returns-else-not-is_kept : goal.returns-else-not-is_kept
+returns-else-not-is_kept g c =
     let n = c.args.rank in let rows = c.args.rows.now in let s = c.args.s in let t = c.loop-t.t in
     let l = cut_letter n rows s (omega arith) (omega arith) in
     let k = cut_letter n rows t (omega arith) (omega arith) in (
       λ e b j. before_next (Kept g.R.PairRule.keeps n rows s) n rows t c.loop-t.invariant
-          (kept_exponents g.R.PairRule.keeps n rows s t l k (c.is-kept.ensures.0 c.if-not-is-kept.false)) b j (omega (arith, letter_within n rows b j)),
+          (kept_exponents g.R.PairRule.keeps n rows s t l k (c.is_kept.ensures.0 c.if-not-is_kept.false)) b j (omega (arith, letter_within n rows b j)),
       λ h. refl,
     )
 

@@ -5,6 +5,6 @@ use Rattle.lines.proofs.reader.Reader.is_done.Goals as goal
 
 pub returns : goal.returns
 returns c = (
-  λ e. nil_from_length _ (eqb-true _ _ (sym c.is-empty.ensures ∙ e)),
-  λ e. c.is-empty.ensures ∙ eq-eqb _ _ (ap length e),
+  λ e. nil_from_length _ (eqb-true _ _ (sym c.is_empty.ensures ∙ e)),
+  λ e. c.is_empty.ensures ∙ eq-eqb _ _ (ap length e),
 )

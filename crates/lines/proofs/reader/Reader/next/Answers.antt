@@ -3,11 +3,11 @@ use Rattle.lines.proofs.Cutting.{cut_shorter}
 use Rattle.lines.proofs.Placing.{one_more, line_at}
 use Rattle.lines.proofs.reader.Reader.next.Goals as goal
 
-pub invariant-of-self : goal.invariant-of-self
-invariant-of-self c =
+pub invariant_of-self : goal.invariant_of-self
+invariant_of-self c =
     let reader = c.args.self.now in
     let cut = c.in-Some.ensures in
-    (one_more reader.lines reader.input.now reader.place cut, (omega (arith, cut_shorter cut, reader.few), tt))
+    record { place = one_more reader.lines reader.input.now reader.place cut; few = omega (arith, cut_shorter cut, reader.few) }
 
 pub returns-in-Some : goal.returns-in-Some
 returns-in-Some c =

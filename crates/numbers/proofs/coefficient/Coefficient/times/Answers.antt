@@ -21,14 +21,14 @@ three x y z h k l =
 wider : (n : ℕ) (x : ℤ) → n ≤ 512000000000000 → Small n x → Small 512000000000000 x
 wider n x k h = record { low = omega (arith, ints); high = omega (arith, ints) }
 
-pub overflow-add-whole : goal.overflow-add-whole
-overflow-add-whole c = sum_fits 128000000000000 128000000000000 (lit≤ tt) c.scaled.result c.scaled-2.result c.scaled.ensures.small c.scaled-2.ensures.small
+pub overflow_add-whole : goal.overflow_add-whole
+overflow_add-whole c = sum_fits 128000000000000 128000000000000 (lit≤ tt) c.scaled.result c.scaled-2.result c.scaled.ensures.small c.scaled-2.ensures.small
 
-pub overflow-add-golden : goal.overflow-add-golden
-overflow-add-golden c = sum_fits 128000000000000 128000000000000 (lit≤ tt) c.scaled-3.result c.scaled-4.result c.scaled-3.ensures.small c.scaled-4.ensures.small
+pub overflow_add-golden : goal.overflow_add-golden
+overflow_add-golden c = sum_fits 128000000000000 128000000000000 (lit≤ tt) c.scaled-3.result c.scaled-4.result c.scaled-3.ensures.small c.scaled-4.ensures.small
 
-pub overflow-add-golden-2 : goal.overflow-add-golden-2
-overflow-add-golden-2 c =
+pub overflow_add-golden-2 : goal.overflow_add-golden-2
+overflow_add-golden-2 c =
     let p = two c.scaled-3.result c.scaled-4.result c.scaled-3.ensures.small c.scaled-4.ensures.small in
     let s = two_small c.scaled-3.result c.scaled-4.result c.scaled-3.ensures.small c.scaled-4.ensures.small in
     subst (λ (u : ℤ). SFits w64 (u +ℤ held c.scaled-5.result)) (small_held 256000000000000 _ (lit≤ tt) s ∙ sym p)

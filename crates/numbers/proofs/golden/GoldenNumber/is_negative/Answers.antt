@@ -10,4 +10,4 @@ returns c =
     let g : SFits w64 b = omega (arith, ints) in
     let h : SFits w64 (pos 2 *ℤ a) = omega (arith, ints) in
     let k : SFits w64 (pos 2 *ℤ a +ℤ b) = omega (arith, ints) in
-    simp to_z-of_z at c.is-negative-sum.ensures
+    simp to_z-of_z at c.is_negative_sum.ensures

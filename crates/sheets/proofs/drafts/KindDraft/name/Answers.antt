@@ -1,4 +1,4 @@
 use Rattle.sheets.proofs.drafts.KindDraft.name.Goals as goal
 
-pub invariant-of-result : goal.invariant-of-result
-invariant-of-result c = (∣ c.carries.ensures.0 c.if-not-carries.false ∣₁, tt)
+pub invariant_of-result : goal.invariant_of-result
+invariant_of-result c = record { carried = ∣ c.carries.ensures.0 c.if-not-carries.false ∣₁ }

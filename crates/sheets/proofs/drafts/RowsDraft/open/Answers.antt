@@ -6,11 +6,11 @@ use Rattle.lines.proofs.SheetLines.{no_rank}
 use Rattle.sheets.proofs.TableRows.{filled_none}
 use Rattle.sheets.proofs.drafts.RowsDraft.open.Goals as goal
 
-pub returns-in-err-value : goal.returns-in-err-value
-returns-in-err-value c =
-    let h = c.in-err-value.ensures in
-    exit _ (Refuses rank_due c.args.line.now) (Line c.in-err-value.field-0.0) c.from-residual.result c.from-residual.ensures.1
+pub returns-in_err-value : goal.returns-in_err-value
+returns-in_err-value c =
+    let h = c.in_err-value.ensures in
+    exit _ (Refuses rank_due c.args.line.now) (Line c.in_err-value.field-0.0) c.from_residual.result c.from_residual.ensures.1
     (subst (λ f. Refuses rank_due c.args.line.now (Line f)) (sym h.0) (no_rank h.1))
 
-pub invariant-of-result : goal.invariant-of-result
-invariant-of-result c = let h = c.in-Some.ensures in (h.0, (h.1, (omega arith, (∣ filled_none _ _ ∣₁, tt))))
+pub invariant_of-result : goal.invariant_of-result
+invariant_of-result c = let h = c.in-Some.ensures in record { some = h.0; few = h.1; left = omega arith; filled = ∣ filled_none _ _ ∣₁ }

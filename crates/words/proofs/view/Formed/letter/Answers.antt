@@ -3,11 +3,11 @@ use Rattle.std.proofs.lemmas.List.{length-reverse}
 use Rattle.words.proofs.Readings.{letters_get, below_in, turned_length, reversed_get, front_get, behind_get}
 use Rattle.words.proofs.view.Formed.letter.Goals as goal
 
-pub overflow-sub-result : goal.overflow-sub-result
-overflow-sub-result c = omega (arith, below_in c.args.self _ c.args.i c.in-Reversed.is c.requires, length-reverse c.in-Reversed.a.now)
+pub overflow_sub-result : goal.overflow_sub-result
+overflow_sub-result c = omega (arith, below_in c.args.self _ c.args.i c.in-Reversed.is c.requires, length-reverse c.in-Reversed.a.now)
 
-pub overflow-sub-result-in-Reversed : goal.overflow-sub-result-in-Reversed
-overflow-sub-result-in-Reversed c = omega (arith, below_in c.args.self _ c.args.i c.in-Reversed.is c.requires, length-reverse c.in-Reversed.a.now)
+pub overflow_sub-result-in-Reversed : goal.overflow_sub-result-in-Reversed
+overflow_sub-result-in-Reversed c = omega (arith, below_in c.args.self _ c.args.i c.in-Reversed.is c.requires, length-reverse c.in-Reversed.a.now)
 
 pub bounds-a-a : goal.bounds-a-a
 bounds-a-a c = omega (arith, below_in c.args.self _ c.args.i c.in-Reversed.is c.requires, length-reverse c.in-Reversed.a.now)

@@ -11,6 +11,6 @@ returns g c =
     let x = c.args.self.now in
     let k : Letter (matrix x.group) c.args.s = cut_letter x.group.rank x.group.rows c.args.s (omega arith) (omega arith) in
     record {
-      told = λ w h. descent_told (matrix x.group) (numbers (map g.N.Number.value x.lent.row.now)) w c.args.s c.is-negative-at.result (lawful_of (matrix x.group) x.group.lawful) k h c.is-negative-at.ensures;
+      told = λ w h. descent_told (matrix x.group) (numbers (map g.N.Number.value x.lent.row.now)) w c.args.s c.is_negative_at.result (lawful_of (matrix x.group) x.group.lawful) k h c.is_negative_at.ensures;
       outside = λ n. absurd (n k);
     }

@@ -5,11 +5,11 @@ use Rattle.carriers.proofs.chamber.carrying.ChamberCarrier.home.Goals as goal
 pub returns : goal.returns
 returns g c =
     let x = c.args.self.now in
-    let row = c.set-start.new.self.row.now in
+    let row = c.set_start.new.self.row.now in
     let w : x.group.rank ≤ length row = omega arith in
     record {
       same = refl;
       laws = chamber_laws g.N.Number.value x.group row w g.N.Number.fits g.met.N.Number.unit g.met.N.Number.within;
-      here = home_shows g.N.Number.value x.group row w (λ i h. c.set-start.ensures.ones i (omega arith));
-      beyond = subst (λ (n : ℕ). drop n row ≡ drop n x.lent.row.now) c.rank-n.ensures.told c.set-start.ensures.beyond;
+      here = home_shows g.N.Number.value x.group row w (λ i h. c.set_start.ensures.ones i (omega arith));
+      beyond = subst (λ (n : ℕ). drop n row ≡ drop n x.lent.row.now) c.rank-n.ensures.told c.set_start.ensures.beyond;
     }

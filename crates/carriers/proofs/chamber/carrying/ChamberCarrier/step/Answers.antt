@@ -20,11 +20,11 @@ returns-then-s-eq0 g c =
       beyond = refl;
     }
 
-pub returns-then-step-point : goal.returns-then-step-point
-returns-then-step-point g c =
+pub returns-then-step_point : goal.returns-then-step_point
+returns-then-step_point g c =
     let x = c.args.self.now in
-    let row = c.step-point.new.self.row.now in
-    let m = c.if-step-point.ensures in
+    let row = c.step_point.new.self.row.now in
+    let m = c.if-step_point.ensures in
     let k : Letter (matrix x.group) c.args.s = cut_letter x.group.rank x.group.rows c.args.s (omega arith) (omega arith) in
     let e : length (matrix x.group) ≡ c.rank-n.result = omega (arith, cut_rank x.group.rank x.group.rows) in
     let w : x.group.rank ≤ length row = omega arith in
@@ -43,11 +43,11 @@ returns-then-step-point g c =
       beyond = subst (λ (n : ℕ). drop n row ≡ drop n x.lent.row.now) c.rank-n.ensures.told m.beyond;
     }
 
-pub returns-else-step-point : goal.returns-else-step-point
-returns-else-step-point g c =
+pub returns-else-step_point : goal.returns-else-step_point
+returns-else-step_point g c =
     let x = c.args.self.now in
-    let row = c.step-point.new.self.row.now in
-    let m = c.if-step-point.ensures in
+    let row = c.step_point.new.self.row.now in
+    let m = c.if-step_point.ensures in
     let k : Letter (matrix x.group) c.args.s = cut_letter x.group.rank x.group.rows c.args.s (omega arith) (omega arith) in
     let e : length (matrix x.group) ≡ c.rank-n.result = omega (arith, cut_rank x.group.rank x.group.rows) in
     let w : x.group.rank ≤ length row = omega arith in
@@ -57,7 +57,7 @@ returns-else-step-point g c =
         same = refl;
         laws = chamber_laws g.N.Number.value x.group row w g.N.Number.fits g.met.N.Number.unit g.met.N.Number.within;
         took = (
-          chamber_same x c.step-point.new.self _ _ m.moved.0,
+          chamber_same x c.step_point.new.self _ _ m.moved.0,
           k,
           λ v h. stuck_unfit (matrix x.group) c.rank-n.result c.args.s e (get_or x.coefficients.columns (c.args.s - 1) []) t (map g.N.Number.value x.lent.row.now) g.N.Number.fits v k m.moved.1 h,
         );

@@ -12,6 +12,6 @@ returns c =
     let x = c.args.self.now in
     let k : Letter (matrix x.group) c.args.s = cut_letter x.group.rank x.group.rows c.args.s (omega arith) (omega arith) in
     record {
-      told = λ w h. descent_told (matrix x.group) (gaps x.lent.row.now) w c.args.s c.is-inverted.result (lawful_of (matrix x.group) x.group.lawful) k h.shows (c.is-inverted.ensures ∙ gap_negative _ _);
+      told = λ w h. descent_told (matrix x.group) (gaps x.lent.row.now) w c.args.s c.is_inverted.result (lawful_of (matrix x.group) x.group.lawful) k h.shows (c.is_inverted.ensures ∙ gap_negative _ _);
       outside = λ n. absurd (n k);
     }
