@@ -23,8 +23,8 @@ tail-returns-else-s-eq0 t c = subst (λ n. Stops after_text n c.args.s.now 0) (s
 pub tail-returns-in_default : goal.tail-returns-in_default
 tail-returns-in_default t c = tail_space _ _ (omega arith) (omega (arith, ltb-true, ltb-false))
 
-pub tail-returns-in_default·2 : goal.tail-returns-in_default·2
-tail-returns-in_default·2 t c = tail_space _ _ (omega arith) (omega (arith, ltb-true, ltb-false))
+pub tail-returns-in_default-2 : goal.tail-returns-in_default-2
+tail-returns-in_default-2 t c = tail_space _ _ (omega arith) (omega (arith, ltb-true, ltb-false))
 
 pub tail-returns-in-Ok : goal.tail-returns-in-Ok
 tail-returns-in-Ok t c = tail_ok _ _ (omega (arith, ltb-true, ltb-false)) (omega arith) (omega (arith, c.row.auto.out)) c.in-Ok.ensures
