@@ -1,5 +1,5 @@
 -- The carrier of a sheet can always be opened: its kind carries its group, and the row is long enough.
-use Rattle.std.proofs.Common.{◌≡◌, ℕ, ◌<◌, ◌≤◌, Err, refl, subst, inl, inr, arith}
+use Rattle.std.proofs.Common.{◌≡◌, ℕ, Err, subst, arith}
 use mathlib.Core.Logic.{∥∥₁_elim}
 use mathlib.Core.HLevel.{¬_prop}
 use native.Mathlib.Nat.{ℕ_set}

@@ -1,5 +1,5 @@
 -- The exchange of two neighbours in a row of entries steps the point that its gaps show.
-use Rattle.std.proofs.Common.{◌≡◌, ℕ, zero, suc, ◌+◌, ◌-◌, ◌<◌, ◌≤◌, Bool, true, false, cond, ltb, ◌≢◌, ◌⊎◌, List, [], ◌∷◌, ◌++◌, length, get_or, drop, set, ℤ, pos, negsuc, ◌+ℤ◌, ◌-ℤ◌, ◌*ℤ◌, sym, refl, ap, ◌∙◌, subst, inl, inr, ⊎_elim, arith, length-set}
+use Rattle.std.proofs.Common.{◌≡◌, ℕ, ◌+◌, ◌-◌, ◌<◌, ◌≤◌, true, false, ltb, ◌≢◌, ◌⊎◌, List, [], ◌∷◌, ◌++◌, length, get_or, drop, set, ℤ, pos, negsuc, ◌+ℤ◌, ◌-ℤ◌, ◌*ℤ◌, sym, refl, ap, ◌∙◌, inl, inr, ⊎_elim, arith, length-set}
 use mathlib.Core.Logic.{∥∥₁_elim}
 use mathlib.Core.HLevel.{Π_prop}
 use native.Mathlib.Nat.{ℕ_set}
@@ -8,12 +8,12 @@ use Rattle.std.proofs.lemmas.List.{get_or-set_same, get_or-set_other, drop-set-l
 use Rattle.std.proofs.lemmas.Bool.{cases_eq, cases_lt, lt-ltb, le-ltb, cond-true, cond-false}
 use Rattle.std.proofs.lemmas.Bool.Decides.{nat_tests}
 use Rattle.std.proofs.lemmas.Int.{ints}
-use Rattle.coxeter.specs.Numbers.{Exact, integer, minus, times, negative}
-use Rattle.coxeter.specs.Groups.{Matrix, Lawful, Letter, rank}
-use Rattle.coxeter.specs.Moves.{Word, Letters, Joined}
+use Rattle.coxeter.specs.Numbers.{integer, minus, times, negative}
+use Rattle.coxeter.specs.Groups.{Matrix, Letter, rank}
+use Rattle.coxeter.specs.Moves.{Word}
 use Rattle.coxeter.specs.Pairs.{Path, path_exponent}
 use Rattle.coxeter.proofs.Exacts.{same_parts}
-use Rattle.coxeter.specs.Points.{Point, stepped, coefficient, coefficient_of}
+use Rattle.coxeter.specs.Points.{stepped, coefficient, coefficient_of}
 use Rattle.carriers.specs.Rows.{Shows, full_frame}
 use Rattle.carriers.specs.Carriers.{Laws}
 use Rattle.coxeter.specs.Matrices.{matrix}

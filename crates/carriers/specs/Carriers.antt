@@ -1,5 +1,5 @@
 -- What holds of every carrier, and what a step of it does.
-use Rattle.std.specs.Prelude.{◌≡◌, ℕ, Bool, true, false, [], ◌∷◌, ◌++◌, Ok, Err, Result}
+use Rattle.std.specs.Prelude.{◌≡◌, ℕ, true, false, [], ◌∷◌, ◌++◌, Ok, Err, Result}
 use Rattle.carriers.specs.declared.faults.StepFault.{StepFault}
 use Rattle.carriers.specs.declared.faults.StepFault.TheVariants.{Letter as NoLetter, Reach as OutOfReach}
 use Rattle.coxeter.specs.Groups.{Lawful, Letter}

@@ -1,7 +1,7 @@
 -- What a chamber means.
 use Rattle.std.specs.Prelude.{Bool, List, map, drop}
 use Rattle.coxeter.specs.Numbers.{Exact}
-use Rattle.coxeter.specs.Groups.{Matrix, rank}
+use Rattle.coxeter.specs.Groups.{rank}
 use Rattle.coxeter.specs.Matrices.{matrix}
 use Rattle.coxeter.specs.Moves.{Word}
 use Rattle.carriers.specs.Frames.{Frame}

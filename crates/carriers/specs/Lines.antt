@@ -1,6 +1,6 @@
 -- One-line notation of a permutation: each letter exchanges two neighbours.
 use Rattle.std.specs.Prelude.{◌≡◌, ℕ, ◌+◌, ◌-◌, ◌<◌, ◌≤◌, List, pos, ◌-ℤ◌, slice_index, slice_set}
-use Rattle.coxeter.specs.Numbers.{Exact, integer}
+use Rattle.coxeter.specs.Numbers.{integer}
 use Rattle.coxeter.specs.Groups.{Matrix, rank}
 use Rattle.coxeter.specs.Moves.{Word}
 use Rattle.coxeter.specs.Points.{Point}

@@ -1,8 +1,8 @@
 -- A row of numbers as a point: letter a has its number at index a - 1.
-use Rattle.std.specs.Prelude.{◌≡◌, ℕ, zero, suc, ◌-◌, ◌<◌, ◌≤◌, Bool, true, false, ◌&&◌, List, [], ◌∷◌, length, pos, nat_le, slice_index_or}
+use Rattle.std.specs.Prelude.{◌≡◌, ℕ, zero, suc, ◌-◌, Bool, true, ◌&&◌, List, [], ◌∷◌, pos, nat_le, slice_index_or}
 use Rattle.coxeter.specs.Numbers.{Exact, integer}
 use Rattle.coxeter.specs.Groups.{Matrix, Letter, rank}
-use Rattle.coxeter.specs.Points.{Point, stepped, point}
+use Rattle.coxeter.specs.Points.{Point, point}
 use Rattle.coxeter.specs.Moves.{Word, Letters}
 use Rattle.carriers.specs.Frames.{Frame}
 

@@ -1,5 +1,5 @@
 -- A step of a point in a row, by a column of coefficients.
-use Rattle.std.specs.Prelude.{◌≡◌, ℕ, ◌-◌, ◌<◌, Bool, false, List, slice_index_or}
+use Rattle.std.specs.Prelude.{◌≡◌, ℕ, ◌<◌, Bool, false, List, slice_index_or}
 use Rattle.coxeter.specs.Numbers.{Exact, minus, times}
 use Rattle.numbers.specs.Coefficients.{worth, zero}
 use Rattle.numbers.specs.declared.coefficient.Coefficient.{Coefficient}

@@ -1,5 +1,5 @@
 -- Which numbers fit each kind, and what an exact answer of a kind is.
-use Rattle.std.specs.Prelude.{◌≡◌, ℕ, Bool, true, false, ◌&&◌, ℤ, pos, neg_ℤ, ◌≤ℤ◌, Some, None, Option, int_le}
+use Rattle.std.specs.Prelude.{◌≡◌, ℕ, Bool, false, ◌&&◌, ℤ, pos, neg_ℤ, ◌≤ℤ◌, Some, None, Option, int_le}
 use Rattle.coxeter.specs.Numbers.{Exact}
 
 -- the number φ itself

@@ -1,5 +1,5 @@
 -- From line to line of a sheet: what the lines so far led to, and where they are refused.
-use Rattle.std.proofs.Common.{◌≡◌, ℕ, ◌+◌, List, [], ◌∷◌, ◌++◌, length, Ok, Err, Result, sym, refl, ap, ◌∙◌, subst, append_assoc, arith, MatchResult}
+use Rattle.std.proofs.Common.{◌≡◌, ℕ, List, [], ◌∷◌, ◌++◌, length, Ok, Err, Result, sym, refl, ap, ◌∙◌, subst, append_assoc, arith, MatchResult}
 use Rattle.coxeter.specs.Matrices.{matrix}
 use Rattle.lines.specs.Cuts.{Cut}
 use Rattle.lines.specs.Reading.{Next}

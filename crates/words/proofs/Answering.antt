@@ -1,7 +1,7 @@
 -- What a walk tells by moves.
-use Rattle.std.proofs.Common.{◌≡◌, ℕ, ◌+◌, ◌-◌, ◌<◌, ◌≤◌, min, Bool, List, [], ◌∷◌, ◌++◌, reverse, length, get_or, take, drop, set, Ok, Err, Result, sym, refl, ap, ◌∙◌, subst, arith, take-append-drop, take_all, take_at}
+use Rattle.std.proofs.Common.{◌≡◌, ℕ, ◌+◌, ◌-◌, ◌<◌, ◌≤◌, min, List, [], ◌∷◌, ◌++◌, reverse, length, get_or, take, drop, set, Ok, Err, Result, sym, refl, ap, ◌∙◌, subst, arith, take-append-drop, take_all, take_at}
 use Rattle.std.proofs.lemmas.List.{length-reverse, length-take-le, reverse-reverse, get_or-reverse, get_or-take, take_more, take_more_set}
-use Rattle.coxeter.specs.Groups.{Matrix, Lawful}
+use Rattle.coxeter.specs.Groups.{Lawful}
 use Rattle.coxeter.specs.Moves.{Word, Letters, Joined}
 use Rattle.coxeter.specs.Lengths.{LengthOf}
 use Rattle.coxeter.proofs.Joining.{letters_front, letters_rest}
@@ -11,7 +11,7 @@ use Rattle.coxeter.proofs.Inverses.{letters_reverse, distances_decide}
 use Rattle.carriers.specs.Frames.{Frame}
 use Rattle.words.specs.declared.faults.WordFault.{WordFault}
 use Rattle.words.specs.declared.faults.WordFault.TheVariants.{Short, TooLong, Letter as NoLetter, Reach as OutOfReach}
-use Rattle.words.specs.Outcomes.{Passed, Refused, Measured, Written}
+use Rattle.words.specs.Outcomes.{Refused, Measured, Written}
 use Rattle.words.specs.Promises.{FormTold, LengthTold, DistanceTold}
 use Rattle.words.specs.Reading.{Read}
 

@@ -1,5 +1,5 @@
 -- Binary digits of a set of letters.
-use Rattle.std.proofs.Common.{◌≡◌, ℕ, zero, suc, ◌+◌, ◌-◌, ◌*◌, ◌/◌, ◌%◌, ◌^◌, ◌<◌, ◌≤◌, Bool, true, false, cond, ◌||◌, eqb, ◌≢◌, ◌⊎◌, List, [], ◌∷◌, length, sym, refl, ap, ◌∙◌, subst, inl, inr, ⊎_elim, pow-suc, div-add-mod', add-one, arith}
+use Rattle.std.proofs.Common.{◌≡◌, ℕ, zero, suc, ◌+◌, ◌-◌, ◌*◌, ◌/◌, ◌%◌, ◌^◌, ◌<◌, ◌≤◌, true, false, ◌||◌, eqb, ◌⊎◌, ◌∷◌, length, sym, refl, ap, ◌∙◌, subst, inl, inr, ⊎_elim, pow-suc, div-add-mod', add-one, arith}
 use lib.Bits.{bit_or, or_zero_l, or_zero_r, or_self, or_shr, or_mod, shifted_even}
 use lib.Count.{ones, ones_step, ones-le, count_trailing_zeros, under}
 use Rattle.std.proofs.lemmas.Nat.{pow-add, pow_below, shl-shr, shr-shr, div_below, mod_below, shr_split}

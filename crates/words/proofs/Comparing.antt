@@ -1,5 +1,5 @@
 -- Fronts of two buffers, groups of two carriers, elements of two words.
-use Rattle.std.proofs.Common.{◌≡◌, ℕ, ◌+◌, ◌-◌, ◌<◌, ◌≤◌, Bool, true, false, cond, ◌&&◌, leb, ◌≢◌, ◌↔◌, List, [], reverse, length, get_or, take, Ok, Err, Decides, sym, refl, ap, ◌∙◌, subst, inl, inr, arith, ext_get_or}
+use Rattle.std.proofs.Common.{◌≡◌, ℕ, ◌+◌, ◌-◌, ◌<◌, ◌≤◌, false, ◌≢◌, ◌↔◌, List, [], reverse, length, get_or, take, Ok, Err, Decides, sym, refl, ap, ◌∙◌, subst, inl, inr, arith, ext_get_or}
 use Rattle.std.proofs.lemmas.List.{length-take-le, get_or-take, reverse-reverse}
 use Rattle.std.proofs.lemmas.Bool.{both_ways}
 use Rattle.std.proofs.lemmas.Bool.Decides.{nat_tests}
@@ -9,8 +9,6 @@ use Rattle.coxeter.specs.Points.{Form}
 use Rattle.coxeter.proofs.Forms.{forms_decide}
 use Rattle.carriers.specs.Frames.{Frame}
 use Rattle.words.specs.declared.faults.WordFault.{WordFault}
-use Rattle.words.specs.Outcomes.{Passed}
-use Rattle.words.specs.declared.elements.Comparison.{Comparison}
 use Rattle.words.specs.declared.elements.Comparison.TheVariants.{Same, Unlike}
 use Rattle.words.specs.Promises.{Compared}
 use Rattle.words.specs.Reading.{Read}

@@ -1,12 +1,12 @@
 -- What length, distance and the forms answer is determined by the frame, the word and the buffer.
-use Rattle.std.proofs.Common.{◌≡◌, ℕ, ◌+◌, ◌-◌, ◌<◌, ◌≤◌, min, true, false, ◌⊎◌, List, ◌++◌, length, take, drop, Ok, Err, Result, sym, refl, ap, ◌∙◌, subst, inl, inr, arith}
+use Rattle.std.proofs.Common.{◌≡◌, ℕ, ◌+◌, ◌-◌, ◌<◌, ◌≤◌, min, false, ◌⊎◌, List, ◌++◌, length, take, drop, Ok, Err, Result, sym, refl, ap, ◌∙◌, subst, inl, inr, arith}
 use Rattle.std.proofs.lemmas.Bool.{both_ways}
 use Rattle.coxeter.specs.Moves.{Word}
 use Rattle.coxeter.proofs.Forms.{forms_unique}
 use Rattle.carriers.specs.Frames.{Frame}
 use Rattle.words.specs.declared.faults.WordFault.{WordFault}
 use Rattle.words.specs.declared.faults.WordFault.TheVariants.{Short, TooLong, Letter as NoLetter, Reach as OutOfReach}
-use Rattle.words.specs.Outcomes.{Entered, Barred, Stranded, Passed, Refused, Sized, Wrote}
+use Rattle.words.specs.Outcomes.{Barred, Stranded, Passed, Refused, Sized, Wrote}
 use Rattle.words.specs.Theorems.{MeasuresAreDetermined, FormsAreDetermined}
 use Rattle.words.proofs.Determined.{one_of, entered_barred, barred_one}
 

@@ -1,4 +1,4 @@
-use Rattle.std.proofs.Common.{◌≡◌, length, ap, ◌∙◌, arith}
+use Rattle.std.proofs.Common.{ap, ◌∙◌, arith}
 use Rattle.coxeter.specs.Numbers.{negative}
 use Rattle.carriers.specs.Rows.{nought}
 use Rattle.carriers.proofs.Values.{value_read}

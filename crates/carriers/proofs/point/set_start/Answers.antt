@@ -1,4 +1,4 @@
-use Rattle.std.proofs.Common.{◌<◌, ◌≢◌, length, ◌∙◌, arith, below_more}
+use Rattle.std.proofs.Common.{◌≢◌, ◌∙◌, arith, below_more}
 use Rattle.std.proofs.lemmas.List.{drop-set-lt}
 use Rattle.carriers.specs.Rows.{nought}
 use Rattle.carriers.proofs.Values.{written_same, written_other}

@@ -1,9 +1,7 @@
-use Rattle.std.proofs.Common.{◌≡◌, ℕ, ◌-◌, ◌<◌, false, ◌≢◌, map, length, get_or, sym, refl, ap, ◌∙◌, subst, arith, length-set, below_more}
+use Rattle.std.proofs.Common.{◌≡◌, ◌<◌, false, ◌≢◌, get_or, sym, refl, ap, ◌∙◌, subst, arith, length-set, below_more}
 use Rattle.std.proofs.lemmas.List.{drop-set-lt}
-use Rattle.coxeter.specs.Numbers.{Exact, minus, times}
-use Rattle.numbers.specs.Coefficients.{worth}
-use Rattle.carriers.specs.Rows.{nought, numbers}
-use Rattle.carriers.specs.Steps.{taken_off}
+use Rattle.coxeter.specs.Numbers.{Exact}
+use Rattle.carriers.specs.Rows.{nought}
 use Rattle.carriers.proofs.Values.{written_same, written_other, value_read, taken_off_read}
 use Rattle.carriers.proofs.point.step_point.Goals as goal
 

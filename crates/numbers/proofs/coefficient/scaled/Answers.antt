@@ -1,4 +1,4 @@
-use Rattle.std.proofs.Common.{◌≡◌, ℤ, ◌*ℤ◌, sym, refl, ap, ◌∙◌, subst, arith, lit≤, w8, w64, SFits, to_z, of_z}
+use Rattle.std.proofs.Common.{◌≡◌, ◌*ℤ◌, sym, ap, ◌∙◌, subst, arith, lit≤, w8, w64, SFits, to_z, of_z}
 use Rattle.std.proofs.lemmas.Int.{ints, to_z-of_z}
 use Rattle.numbers.specs.Kinds.{Small}
 use Rattle.numbers.proofs.Products.{held, product_small, small_fits, small_held}

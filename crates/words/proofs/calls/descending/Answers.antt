@@ -1,9 +1,9 @@
-use Rattle.std.proofs.Common.{◌≡◌, ℕ, ◌+◌, ◌<◌, ◌≤◌, false, Decides, sym, ap, ◌∙◌, subst, arith}
+use Rattle.std.proofs.Common.{ℕ, ◌+◌, ◌<◌, ◌≤◌, Decides, sym, subst, arith}
 use Rattle.std.proofs.lemmas.Bool.{both_ways}
 use Rattle.coxeter.specs.Groups.{Letter}
 use Rattle.coxeter.specs.Lengths.{Descends}
 use Rattle.coxeter.specs.Moves.{Word}
-use Rattle.words.specs.Sets.{has, Descending}
+use Rattle.words.specs.Sets.{has}
 use Rattle.words.specs.declared.descents.Descents.{Descents}
 use Rattle.words.proofs.Inserting.{one_in, one_out}
 use Rattle.words.proofs.calls.descending.Given.{Over}

@@ -1,4 +1,4 @@
-use Rattle.std.proofs.Common.{◌++◌, reverse, subst}
+use Rattle.std.proofs.Common.{◌++◌, subst}
 use Rattle.coxeter.specs.Groups.{Lawful}
 use Rattle.carriers.specs.Frames.{Frame}
 use Rattle.words.proofs.Answering.{told_of}

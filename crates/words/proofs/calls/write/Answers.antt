@@ -1,4 +1,4 @@
-use Rattle.std.proofs.Common.{◌≡◌, ℕ, ◌-◌, ◌<◌, ◌≤◌, min, length, get_or, ◌∙◌, arith}
+use Rattle.std.proofs.Common.{◌-◌, get_or, ◌∙◌, arith}
 use Rattle.std.proofs.lemmas.List.{drop-set-lt}
 use Rattle.words.specs.Views.{letters_of}
 use Rattle.words.proofs.Answering.{reversed_more, written_ok, written_err}

@@ -1,4 +1,4 @@
-use Rattle.std.proofs.Common.{◌≡◌, ℕ, ◌≤◌, reverse, length, take, drop}
+use Rattle.std.proofs.Common.{◌≡◌, reverse, take, drop}
 use Rattle.words.proofs.calls.write.Given as goal
 
 abbrev pub invariant-loop-i : goal.invariant-loop-i

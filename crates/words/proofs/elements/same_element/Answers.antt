@@ -1,4 +1,4 @@
-use Rattle.std.proofs.Common.{◌≡◌, Ok, ◌∙◌, subst}
+use Rattle.std.proofs.Common.{Ok, ◌∙◌, subst}
 use Rattle.std.proofs.lemmas.Bool.{both_ways}
 use Rattle.coxeter.specs.Groups.{Lawful}
 use Rattle.carriers.specs.Frames.{Frame}

@@ -1,6 +1,6 @@
-use Rattle.std.proofs.Common.{◌≡◌, ℕ, ◌+◌, ◌≤◌, sym, refl, ◌∙◌, subst, ⊎_elim, arith}
+use Rattle.std.proofs.Common.{◌≡◌, ℕ, ◌+◌, sym, refl, ◌∙◌, subst, ⊎_elim, arith}
 use Rattle.std.proofs.lemmas.Bool.{cases_eq}
-use Rattle.coxeter.specs.Groups.{Letter, answered_exponent}
+use Rattle.coxeter.specs.Groups.{answered_exponent}
 use Rattle.words.proofs.Comparing.{never}
 use Rattle.words.proofs.elements.same_exponents.Goals as goal
 

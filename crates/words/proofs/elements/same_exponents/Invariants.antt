@@ -1,5 +1,5 @@
 use Rattle.std.proofs.Common.{◌≡◌, ℕ, ◌≤◌}
-use Rattle.coxeter.specs.Groups.{Letter, answered_exponent}
+use Rattle.coxeter.specs.Groups.{answered_exponent}
 use Rattle.words.proofs.elements.same_exponents.Given as goal
 
 abbrev pub invariant-loop-t : goal.invariant-loop-t

@@ -1,4 +1,4 @@
-use Rattle.std.proofs.Common.{◌≡◌, ℕ, ◌+◌, ◌<◌, ◌≤◌, sym, ◌∙◌, arith}
+use Rattle.std.proofs.Common.{◌+◌, sym, ◌∙◌, arith}
 use Rattle.coxeter.specs.Groups.{Letter}
 use Rattle.words.proofs.TakingOff.{sign_of, flat_more}
 use Rattle.words.proofs.reading.least_descending.Goals as goal

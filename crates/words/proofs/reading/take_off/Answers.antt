@@ -1,4 +1,4 @@
-use Rattle.std.proofs.Common.{◌≡◌, ℕ, ◌<◌, ◌≤◌, ◌++◌, length, take, sym, refl, ◌∙◌, subst, append-nil, arith}
+use Rattle.std.proofs.Common.{◌<◌, length, sym, refl, ◌∙◌, subst, append-nil, arith}
 use Rattle.coxeter.specs.Moves.{Word}
 use Rattle.words.specs.Views.{letters_of}
 use Rattle.words.proofs.TakingOff.{take_off_none, take_off_room, take_off_more, take_off_fails, take_off_letter, take_off_done}

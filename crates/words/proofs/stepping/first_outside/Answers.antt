@@ -1,4 +1,4 @@
-use Rattle.std.proofs.Common.{◌≡◌, ℕ, ◌<◌, get_or, sym, subst, arith, below_more}
+use Rattle.std.proofs.Common.{ℕ, subst, arith, below_more}
 use Rattle.coxeter.specs.Groups.{Letter}
 use Rattle.words.specs.Views.{letters_of}
 use Rattle.words.proofs.Ways.{letters_all}

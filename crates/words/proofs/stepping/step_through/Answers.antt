@@ -1,11 +1,10 @@
-use Rattle.std.proofs.Common.{◌≡◌, ℕ, ◌<◌, length, take, Some, sym, refl, ◌∙◌, subst, arith, take_all}
+use Rattle.std.proofs.Common.{◌≡◌, ℕ, length, Some, sym, refl, ◌∙◌, subst, arith, take_all}
 use Rattle.coxeter.specs.Moves.{Word, Letters}
 use Rattle.carriers.specs.Frames.{Frame}
 use Rattle.words.specs.Views.{letters_of}
 use Rattle.words.specs.Outcomes.{Prefixes}
 use Rattle.words.specs.Stepping.{Through}
 use Rattle.words.proofs.Ways.{prefixes_none, pass_on, pass_out, pass_letter}
-use Rattle.words.proofs.stepping.step_through.Given.{Over}
 use Rattle.words.proofs.stepping.step_through.Goals as goal
 
 pub loop-k-init : goal.loop-k-init

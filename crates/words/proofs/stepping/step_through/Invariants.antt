@@ -1,5 +1,4 @@
 use Rattle.std.proofs.Common.{◌≡◌, take}
-use Rattle.coxeter.specs.Moves.{Letters}
 use Rattle.carriers.specs.Carriers.{Laws}
 use Rattle.words.specs.Views.{letters_of}
 use Rattle.words.specs.Outcomes.{Prefixes}

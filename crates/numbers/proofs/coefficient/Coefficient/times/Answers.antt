@@ -1,7 +1,5 @@
 use Rattle.std.proofs.Common.{◌≡◌, ℕ, ◌≤◌, ℤ, ◌+ℤ◌, ◌*ℤ◌, sym, ap, ◌∙◌, subst, arith, lit≤, w8, w64, SFits, to_z, of_z}
 use Rattle.std.proofs.lemmas.Int.{ints, to_z-of_z}
-use Rattle.coxeter.specs.Numbers.{Exact}
-use Rattle.numbers.specs.Coefficients.{worth}
 use Rattle.numbers.specs.Kinds.{Small}
 use Rattle.numbers.proofs.Products.{held, small_held, sum_small, sum_fits, sum_held}
 use Rattle.numbers.proofs.coefficient.Coefficient.times.Goals as goal

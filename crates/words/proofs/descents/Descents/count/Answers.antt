@@ -1,4 +1,4 @@
-use Rattle.std.proofs.Common.{◌≡◌, ◌/◌, ◌^◌, ◌<◌, sym, ap, ◌∙◌, arith}
+use Rattle.std.proofs.Common.{◌<◌, sym, ap, ◌∙◌, arith}
 use lib.Count.{ones}
 use Rattle.words.proofs.Bits.{whole_shr, ones_letters}
 use Rattle.words.proofs.descents.Descents.count.Goals as goal

@@ -1,5 +1,5 @@
 use Rattle.std.proofs.Common.{◌≡◌, ◌<◌, ⊎_elim, arith}
-use Rattle.words.proofs.Bits.{trailing_lowest, least_some, least_none}
+use Rattle.words.proofs.Bits.{trailing_lowest, least_some}
 use Rattle.words.proofs.descents.Descents.least.Goals as goal
 
 pub returns : goal.returns

@@ -2,7 +2,6 @@ use Rattle.std.proofs.Common.{◌≡◌, ℕ, ◌-◌, ◌≤◌, [], ◌∷◌,
 use Rattle.coxeter.specs.Groups.{Letter}
 use Rattle.coxeter.specs.Matrices.{matrix}
 use Rattle.coxeter.proofs.Matrices.{cut_rank, cut_letter}
-use Rattle.carriers.specs.Rows.{numbers}
 use Rattle.carriers.proofs.Standing.{moved_shows, stuck_unfit, shows_fitting, chamber_laws}
 use Rattle.carriers.proofs.Chambers.{chamber_same, table_from}
 use Rattle.carriers.proofs.chamber.carrying.ChamberCarrier.step.Goals as goal
