@@ -27,10 +27,10 @@ mod tests {
         let mut reader = Reader::new(b"a=1\n\nbc");
         let first = reader.next()?;
         assert_eq!(rt; first.number, 1);
-        assert_eq!(rt; first.bytes, b"a=1");
+        assert_eq!(rt; first.bytes, b"a=1".as_slice());
         let second = reader.next()?;
         assert_eq!(rt; second.number, 2);
-        assert_eq!(rt; second.bytes, b"");
+        assert_eq!(rt; second.bytes, b"".as_slice());
         match reader.next() {
             Ok(_) => Err(Fail::new("a third line")),
             Err(e) => {
@@ -44,7 +44,7 @@ mod tests {
     fn a_product_has_two_words(rt: HostRuntime) -> Result<(), Fail> {
         match read(Due::Job, b"product=12/3")? {
             Line::Job(Job::Product(u, v)) => {
-                assert_eq!(rt; (u, v), (b"12", b"3"));
+                assert_eq!(rt; (u, v), (b"12".as_slice(), b"3".as_slice()));
                 Ok(())
             },
             _ => Err(Fail::new("no product")),
