@@ -1,7 +1,7 @@
 -- Worked examples.
 use Rattle.std.specs.Prelude.{◌≡◌, ℕ, ◌-◌, List, [], ◌∷◌, map, pos, negsuc, codes}
 use Prim.Native.String.{String}
-use Rattle.std.specs.List.{range_with_len, AllByRecursion as All}
+use Rattle.std.specs.List.{range_with_len, AllByRecursion}
 use Rattle.coxeter.specs.Numbers.{Exact, integer}
 use Rattle.coxeter.specs.Groups.{Matrix, Lawful, rank}
 use Rattle.coxeter.specs.Moves.{Word}
@@ -54,4 +54,4 @@ examples =
 
 -- the definitions yield each of them
 abbrev pub ExamplesHold : Type 0
-ExamplesHold = All Holds examples
+ExamplesHold = AllByRecursion Holds examples
