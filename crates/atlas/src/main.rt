@@ -16,7 +16,9 @@ use coxeter::group::Group;
 use jobs::answering::answer;
 use lines::located::{Located, at};
 use lines::reader::{MOST_BYTES, Reader};
+use numbers::golden::Golden;
 use numbers::number::Number;
+use numbers::whole::Whole;
 use refusals::refusal::Refusal;
 use sheets::drafts::Sheet;
 use sheets::kinds::Kind;
@@ -78,18 +80,8 @@ fn on_line(rt: &HostRuntime, reader: &mut Reader, group: Group, row: &mut [u8]) 
 fn on_sheet(rt: &HostRuntime, reader: &mut Reader, sheet: Sheet) -> io::Result<()> {
     let group = sheet.group();
     match sheet.kind() {
-        Kind::Whole => on_chamber(
-            rt,
-            reader,
-            group,
-            &mut [<numbers::whole::Whole as Number>::one(); 8],
-        ),
-        Kind::Golden => on_chamber(
-            rt,
-            reader,
-            group,
-            &mut [<numbers::golden::Golden as Number>::one(); 8],
-        ),
+        Kind::Whole => on_chamber(rt, reader, group, &mut [Whole::one(); 8]),
+        Kind::Golden => on_chamber(rt, reader, group, &mut [Golden::one(); 8]),
         Kind::Line => on_line(rt, reader, group, &mut [0; 9]),
     }
 }

@@ -3,7 +3,7 @@
 ghost use Rattle.std.specs.Prelude.{◌≡◌, pos, negsuc, ◌*ℤ◌, ◌≤ℤ◌};
 ghost use Rattle.coxeter.specs.Numbers.{Exact, negative_parts};
 ghost use Rattle.numbers.specs.Kinds.{fits_golden, phi, Fitted};
-ghost use Rattle.std.proofs.Common.{rules, arith};
+ghost use Rattle.std.proofs.Common.{rules};
 
 use crate::coefficient::Coefficient;
 use crate::number::Number;
@@ -58,9 +58,9 @@ impl Number for Golden {
 
     ghost fits = { fits_golden };
 
-    ghost unit = { first_of (Prim.search rules, Prim.grind (arith, Self.row.coded.inj)) };
+    ghost unit = { Prim.search rules };
 
-    ghost within = { first_of (Prim.search rules, Prim.grind (arith, Self.row.coded.inj)) };
+    ghost within = { Prim.search rules };
 
     fn holds_golden() -> bool {
         true

@@ -3,7 +3,7 @@
 ghost use Rattle.std.specs.Prelude.{◌≡◌, pos, negsuc, ◌≤ℤ◌};
 ghost use Rattle.coxeter.specs.Numbers.{Exact, integer};
 ghost use Rattle.numbers.specs.Kinds.{fits_whole, phi, Fitted};
-ghost use Rattle.std.proofs.Common.{rules, arith};
+ghost use Rattle.std.proofs.Common.{rules};
 
 use crate::coefficient::Coefficient;
 use crate::number::Number;
@@ -32,9 +32,9 @@ impl Number for Whole {
 
     ghost fits = { fits_whole };
 
-    ghost unit = { first_of (Prim.search rules, Prim.grind (arith, Self.row.coded.inj)) };
+    ghost unit = { Prim.search rules };
 
-    ghost within = { first_of (Prim.search rules, Prim.grind (arith, Self.row.coded.inj)) };
+    ghost within = { Prim.search rules };
 
     fn holds_golden() -> bool {
         false

@@ -20,7 +20,7 @@ use Rattle.sheets.specs.declared.faults.SheetFault.TheVariants as fault
 use Rattle.sheets.proofs.Spelling.{one_value, one_name, kind_free}
 use Rattle.sheets.proofs.OneStep.{one_fault, right_line, kind_line}
 use Rattle.sheets.proofs.ReadingSteps.{cut_ended}
-use Rattle.sheets.proofs.StageTexts.{Right, Goes_on, Met, one, nearer, farther, meet}
+use Rattle.sheets.proofs.StageTexts.{Right, GoesOn, Met, one, nearer, farther, meet}
 
 -- ---- what a sheet is answered, and where the reader is left
 -- a matrix, a kind and the rest; or the lines before the refusal, the lines handed out, the fault and the rest
@@ -34,7 +34,7 @@ data Ends (g : Stage) (rest : List ℕ) (x : Answer) : Type 0 where
   wrong : (line back : List ℕ) (f : SheetFault) → Cut 10 rest line back → Refuses g line f → x ≡ denied (lines_read g) (lines_read g + 1) f back → Ends g rest x
   named : (m : Matrix) (k : Kind) (back : List ℕ) → g ≡ kind_due m → Cut 10 rest (keyed (codes "kind") (kind_name k)) back → Carries k m → x ≡ accepted m k back → Ends g rest x
 
-goes_on_or_ends : (g : Stage) (rest : List ℕ) (x : Answer) → Goes_on g rest → Ends g rest x → ⊥
+goes_on_or_ends : (g : Stage) (rest : List ℕ) (x : Answer) → GoesOn g rest → Ends g rest x → ⊥
 goes_on_or_ends g rest x o (none f e) = not_free o.cut f
 goes_on_or_ends g rest x o (wrong line back f c r e) = right_line g line f (subst (Right g) (same_cut o.cut c).0 o.right) r
 goes_on_or_ends g rest x o (named m k back is c v e) = subst (λ h. Right h o.line) is o.right

@@ -61,14 +61,14 @@ Right (row_due n rows) line = RightRow n rows line
 Right (kind_due m) line = ⊥
 
 -- rest begins with a right line
-pub record Goes_on (g : Stage) (rest : List ℕ) : Type 0 where
+pub record GoesOn (g : Stage) (rest : List ℕ) : Type 0 where
   pub line : List ℕ
   pub back : List ℕ
   pub cut : Cut 10 rest line back
   pub right : Right g line
 
 -- the row behind rows may stand there
-extends_right : (n : ℕ) (rows : List (List ℕ)) (tail : List ℕ) (rows' : List (List ℕ)) → Begun n rows' → Extends 0 rows tail rows' → Goes_on (row_due n rows) tail
+extends_right : (n : ℕ) (rows : List (List ℕ)) (tail : List ℕ) (rows' : List (List ℕ)) → Begun n rows' → Extends 0 rows tail rows' → GoesOn (row_due n rows) tail
 extends_right n rows tail rows' b x = record {
   line = keyed (row_key_bytes x.number) (row_text x.row);
   back = x.back;
@@ -121,10 +121,10 @@ drafting_kind m law = record {
 -- they are one, or the next line at one of them is right
 pub data Met (g : Stage) (t : List ℕ) (h : Stage) (u : List ℕ) : Type 0 where
   one : g ≡ h → t ≡ u → Met g t h u
-  nearer : Goes_on g t → Met g t h u
-  farther : Goes_on h u → Met g t h u
+  nearer : GoesOn g t → Met g t h u
+  farther : GoesOn h u → Met g t h u
 
-goes_on_rank : (n : ℕ) (rows : List (List ℕ)) (h : Stage) (t u : List ℕ) → Drafting h n rows → t ≡ read_text h ++ u → Goes_on rank_due t
+goes_on_rank : (n : ℕ) (rows : List (List ℕ)) (h : Stage) (t u : List ℕ) → Drafting h n rows → t ≡ read_text h ++ u → GoesOn rank_due t
 goes_on_rank n rows h t u d e = record {
   line = keyed (codes "rank") (digit n);
   back = rows_text 0 rows ++ u;
@@ -132,11 +132,11 @@ goes_on_rank n rows h t u d e = record {
   right = (n, d.begun.some, d.begun.few, refl);
 }
 
-goes_on_row : (n : ℕ) (rows rows' : List (List ℕ)) (g h : Stage) (t : List ℕ) → Drafting g n rows → Drafting h n rows' → Extends 0 rows t rows' → Goes_on g t
+goes_on_row : (n : ℕ) (rows rows' : List (List ℕ)) (g h : Stage) (t : List ℕ) → Drafting g n rows → Drafting h n rows' → Extends 0 rows t rows' → GoesOn g t
 goes_on_row n rows rows' g h t d d' x = by d.due
   where
-    by : ((g ≡ row_due n rows) × (length rows < n)) ⊎ ((g ≡ kind_due rows) × (length rows ≡ n)) → Goes_on g t
-    by (inl (is, _)) = subst (λ y. Goes_on y t) (sym is) (extends_right n rows t rows' d'.begun x)
+    by : ((g ≡ row_due n rows) × (length rows < n)) ⊎ ((g ≡ kind_due rows) × (length rows ≡ n)) → GoesOn g t
+    by (inl (is, _)) = subst (λ y. GoesOn y t) (sym is) (extends_right n rows t rows' d'.begun x)
     by (inr (is, full)) = absurd (omega (arith, d'.begun.within, ap length x.longer, length-append rows (x.row ∷ x.more)))
 
 due_once : (n : ℕ) (rows : List (List ℕ)) (g h : Stage) → Drafting g n rows → Drafting h n rows → g ≡ h
