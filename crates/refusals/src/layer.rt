@@ -1,6 +1,8 @@
 // The layers in which a refusal can arise.
-ghost use Rattle.std.specs.Prelude.{◌≡◌};
+ghost use Rattle.std.specs.Prelude.{◌≡◌, Some};
 ghost use Rattle.refusals.specs.Layers.{layer_name};
+
+use std::fmt;
 
 /// The layer in which a refusal arose.
 #[derive(Clone, Copy, Debug, PartialEq)]
@@ -26,5 +28,13 @@ impl Layer {
             Layer::Word => "word",
             Layer::Register => "register",
         }
+    }
+}
+
+impl fmt::Display for Layer {
+    ghost output = { λ l. Some (layer_name l) };
+
+    fn fmt<W: fmt::Write>(&self, f: &mut fmt::Formatter<W>) -> fmt::Result {
+        f.write_str(self.name())
     }
 }
