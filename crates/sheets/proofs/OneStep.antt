@@ -156,6 +156,6 @@ lines_answered_once_lem g r line = record {
 pub kinds_answered_once_lem : KindsAnsweredOnce
 kinds_answered_once_lem d line = record {
   group = λ b c p q. p.group ∙ sym q.group;
-  kind = λ b c p q. one_name b.kind c.kind (one_value (codes "kind") (kind_name b.kind) (kind_name c.kind) (sym p.text ∙ q.text));
-  either = λ c f p b. kind_line (kind_stage d) (matrix d.group) c.kind line f refl p.text p.carried b;
+  kind = λ b c p q. one_name b.sheet.kind c.sheet.kind (one_value (codes "kind") (kind_name b.sheet.kind) (kind_name c.sheet.kind) (sym p.text ∙ q.text));
+  either = λ c f p b. kind_line (kind_stage d) (matrix d.group) c.sheet.kind line f refl p.text p.carried b;
 }

@@ -81,15 +81,14 @@ module _ {g h : Stage} {a b : Reader} (first : Leads g a h b) where
   }
 
 -- ---- the kind's line
-pub sheet_read : {a b c : Reader} (d : KindDraft) (k : CheckedDraft) (s : Sheet) → Leads rank_due a (kind_stage d) b → KindRead d b c k → s.group ≡ k.group → s.kind ≡ k.kind → SheetRead a c s
-sheet_read {a} {b} {c} d k s so_far r same_group same_kind =
-    let group : matrix s.group ≡ matrix d.group = ap matrix (same_group ∙ r.checked.group) in
-    let kind = sym same_kind in
-    let whole : a.rest.now ≡ sheet_text (matrix d.group) k.kind ++ c.rest.now =
+pub sheet_read : {a b c : Reader} (d : KindDraft) (k : CheckedDraft) → Leads rank_due a (kind_stage d) b → KindRead d b c k → SheetRead a c k.sheet
+sheet_read {a} {b} {c} d k so_far r =
+    let group : matrix k.sheet.group ≡ matrix d.group = ap matrix r.checked.group in
+    let whole : a.rest.now ≡ sheet_text (matrix d.group) k.sheet.kind ++ c.rest.now =
     so_far.text ∙ cut_ended (read_text (kind_stage d)) r.cut ∙ ap (λ t. (read_text (kind_stage d) ++ ended t) ++ c.rest.now) r.checked.text in
     record {
-      text = whole ∙ (λ i. sheet_text (sym group i) (kind i) ++ c.rest.now);
-      carried = subst (λ m. Carries s.kind m) (sym group) (subst (λ x. Carries x (matrix d.group)) kind r.checked.carried);
+      text = whole ∙ (λ i. sheet_text (sym group i) k.sheet.kind ++ c.rest.now);
+      carried = subst (Carries k.sheet.kind) (sym group) r.checked.carried;
       count = omega (arith, so_far.count, r.count, ap length group);
       input = r.input ∙ so_far.input;
     }

@@ -115,7 +115,7 @@ row_step n s rest e k h o t =
 pub tail_none : Spells after_text [] []
 tail_none = record { spelled = refl; writable = tt }
 
-pub tail_more : (s : List ℕ) → 0 < length s → Stops after_text 0 s 0
+tail_more : (s : List ℕ) → 0 < length s → Stops after_text 0 s 0
 tail_more [] h = absurd (omega arith)
 tail_more (x ∷ s) h = record {
   within = omega arith;
@@ -134,7 +134,7 @@ tail_more (x ∷ s) h = record {
     wrong (e ∷ es) n sp = omega arith
 
 -- a tail that lacks its space
-pub tail_space : (m : ℕ) (s : List ℕ) → 0 < m → (0 < length s → get_or s 0 0 ≢ 32) → Stops after_text m s 0
+tail_space : (m : ℕ) (s : List ℕ) → 0 < m → (0 < length s → get_or s 0 0 ≢ 32) → Stops after_text m s 0
 tail_space m s h gap = record {
   within = omega arith;
   good = (spare m, after_text (spare m), spare_length m, record { spelled = refl; writable = spare_writable m });
@@ -149,6 +149,11 @@ tail_space m s h gap = record {
     wrong : (es : List ℕ) → length es ≡ m → Spells after_text s es → ⊥
     wrong [] n sp = omega arith
     wrong (e ∷ es) n sp = gap (omega (arith, ap length sp.spelled)) (ap (λ l. get_or l 0 0) sp.spelled)
+
+-- a tail that is neither done nor begins with its space
+pub tail_stop : (m : ℕ) (s : List ℕ) → (m ≡ 0 → 0 < length s) → (0 < m → 0 < length s → get_or s 0 0 ≢ 32) → Stops after_text m s 0
+tail_stop zero s more gap = tail_more s (more refl)
+tail_stop (suc m) s more gap = tail_space (suc m) s (omega arith) (gap (omega arith))
 
 pub tail_ok : (s : List ℕ) (es : List ℕ) → 0 < length s → get_or s 0 0 ≡ 32 → 0 < length es → Spells row_text (take (length s - 1) (drop 1 s)) es → Spells after_text s es
 tail_ok [] es h a n sp = absurd (omega arith)

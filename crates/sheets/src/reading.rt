@@ -15,13 +15,10 @@ fn next_line<'a>(reader: &mut Reader<'a>) -> Result<Numbered<'a>, Located<SheetF
     ensures line { MatchResult result (Next reader.old reader.new) (NoSheetLine reader.old reader.new) }
     ensures shorter { OnOk result (length reader.new.rest.now < length reader.old.rest.now) }
 {
-    match reader.next() {
-        Ok(line) => Ok(line),
-        Err(unfinished) => Err(Located {
-            line: unfinished.line,
-            fault: SheetFault::from(unfinished.fault),
-        }),
-    }
+    reader.next().map_err(|unfinished| Located {
+        line: unfinished.line,
+        fault: SheetFault::from(unfinished.fault),
+    })
 }
 
 // Reads the rank's line.
