@@ -1,17 +1,7 @@
--- Facts about cuts: how the code makes one, and that there is one at most.
-use Rattle.std.proofs.Common.{◌≡◌, ℕ, suc, ◌+◌, ◌-◌, ◌<◌, List, [], ◌∷◌, ◌++◌, length, get_or, take, drop, sym, refl, ap, ◌∙◌, suc-le-suc, arith, length-append, take-append-drop, length-take-le, get_or-take}
-use Rattle.std.proofs.lemmas.List.{take_rest, drop_more, get_or_at}
-use Rattle.lines.specs.Cuts.{Cut, Free, FirstAt}
-
--- the two parts of a text around the first b are its cut
-pub cut_at : (b : ℕ) (bs : List ℕ) (n : ℕ) → FirstAt b bs n → n < length bs → Cut b bs (take (n - 0) bs) (take (length bs - (n + 1)) (drop (n + 1) bs))
-cut_at b bs n f lt =
-    let z : n - 0 ≡ n = omega arith in
-    let here : b ∷ drop (n + 1) bs ≡ drop n bs = ap (λ x. x ∷ drop (n + 1) bs) (sym (f.found lt)) ∙ sym (drop_more bs n 0 lt) in
-    rw (z, take_rest) (record {
-      whole = ap (λ l. take n bs ++ l) here ∙ take-append-drop n bs;
-      none = λ k h e. f.before k (omega (arith, length-take-le n bs f.within)) (sym (get_or-take n bs k 0 (omega (arith, length-take-le n bs f.within))) ∙ e);
-    })
+-- Facts about cuts: a text has one at most, and none where it is free of the byte.
+use Rattle.std.proofs.Common.{◌≡◌, ℕ, suc, ◌<◌, List, [], ◌∷◌, ◌++◌, length, get_or, sym, refl, ap, ◌∙◌, suc-le-suc, arith, length-append}
+use Rattle.std.proofs.lemmas.List.{get_or_at}
+use Rattle.lines.specs.Cuts.{Cut, Free}
 
 -- a text with a cut is not free of the byte
 pub not_free : {b : ℕ} {bs front back : List ℕ} → Cut b bs front back → Free b bs → ⊥

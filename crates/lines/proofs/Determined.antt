@@ -3,7 +3,7 @@ use Rattle.std.proofs.Common.{◌≡◌, ℕ, List, [], ◌∷◌, sym, refl, �
 use Rattle.lines.specs.Cuts.{Free}
 use Rattle.lines.specs.Words.{OneWord, TwoWords}
 use Rattle.lines.specs.Lines.{IsJob, IsLine}
-use Rattle.lines.specs.Laws.{OneLine, OneReading, job_parts, line_parts}
+use Rattle.lines.specs.Laws.{OneReading, job_parts, line_parts}
 use Rattle.lines.specs.declared.line.Due.{Due}
 use Rattle.lines.specs.declared.line.Due.TheVariants as due
 use Rattle.lines.specs.declared.line.Job.{Job}
@@ -11,9 +11,6 @@ use Rattle.lines.specs.declared.line.Job.TheVariants as job
 use Rattle.lines.specs.declared.line.Line.{Line}
 use Rattle.lines.specs.declared.line.Line.TheVariants as line
 use Rattle.lines.proofs.Cutting.{free_none, not_free, same_cut}
-
-pub one_line : OneLine
-one_line input n a b h k = (same_cut h k).0
 
 -- ws are the words of the value v of a job
 data Worded : List ℕ → List (List ℕ) → Type 0 where

@@ -1,15 +1,9 @@
 -- Cutting a text of bytes at the first byte of a kind.
-use Rattle.std.specs.Prelude.{◌≡◌, ℕ, ◌<◌, ◌≤◌, List, ◌∷◌, ◌++◌, length, ◌≢◌, slice_index}
+use Rattle.std.specs.Prelude.{◌≡◌, ℕ, ◌<◌, List, ◌∷◌, ◌++◌, length, ◌≢◌, slice_index}
 
 -- no byte of bs is b
 abbrev pub Free : ℕ → List ℕ → Type 0
 Free b bs = (k : ℕ) → k < length bs → slice_index bs k ≢ b
-
--- n is the index of the first b in bs, or the length of bs where there is none
-pub record FirstAt (b : ℕ) (bs : List ℕ) (n : ℕ) : Type 0 where
-  pub within : n ≤ length bs
-  pub before : (k : ℕ) → k < n → slice_index bs k ≢ b
-  pub found : n < length bs → slice_index bs n ≡ b
 
 -- bs is front, then the first b, then back
 pub record Cut (b : ℕ) (bs front back : List ℕ) : Type 0 where

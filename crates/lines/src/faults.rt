@@ -1,9 +1,9 @@
 // What a line is refused for.
-ghost use Rattle.refusals.specs.declared.layer.Layer.{Layer};
-ghost use Rattle.lines.specs.Faults.{line_number, line_place};
+ghost use Rattle.lines.specs.Faults.{line_report};
 
 use refusals::layer::Layer;
 use refusals::refusal::Refusal;
+use refusals::report::Report;
 
 /// The fault of a line.
 #[derive(Clone, Copy, Debug, PartialEq)]
@@ -15,27 +15,17 @@ pub enum LineFault {
 }
 
 impl Refusal for LineFault {
-    ghost numbered = { line_number };
+    ghost reported = { line_report };
 
-    ghost placed = { line_place };
-
-    ghost arisen = { λ _. Layer.Line };
-
-    fn number(&self) -> u8 {
-        match self {
-            LineFault::Unfinished(_) => 1,
-            LineFault::Unexpected => 2,
+    fn report(&self) -> Report {
+        let (number, place) = match *self {
+            LineFault::Unfinished(length) => (1, length),
+            LineFault::Unexpected => (2, 0),
+        };
+        Report {
+            number,
+            place,
+            layer: Layer::Line,
         }
-    }
-
-    fn place(&self) -> usize {
-        match self {
-            LineFault::Unfinished(length) => *length,
-            LineFault::Unexpected => 0,
-        }
-    }
-
-    fn layer(&self) -> Layer {
-        Layer::Line
     }
 }

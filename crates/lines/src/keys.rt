@@ -3,7 +3,7 @@ ghost use Rattle.std.specs.Prelude.{◌≡◌, ◌≤◌, MatchOption, MatchResu
 ghost use Rattle.lines.specs.Cuts.{Cut, Free};
 ghost use Rattle.lines.specs.Lines.{IsLine, NoLine, NoReading, Reads, row_key_bytes};
 
-use crate::bytes::{cut, same};
+use crate::bytes::cut;
 use crate::faults::LineFault;
 use crate::jobs::job;
 use crate::line::{Due, Line};
@@ -29,11 +29,11 @@ fn row_key(n: u8) -> Option<&'static [u8]>
 fn keyed<'a>(due: Due, key: &[u8], value: &'a [u8]) -> Option<Line<'a>>
     ensures { MatchOption result (NoLine due key.now value.now) (IsLine due key.now value.now) }
 {
-    match due {
-        Due::Rank if same(key, b"rank") => Some(Line::Rank(value)),
-        Due::Row(n) if same(key, row_key(n)?) => Some(Line::Row(n, value)),
-        Due::Kind if same(key, b"kind") => Some(Line::Kind(value)),
-        Due::Job => Some(Line::Job(job(key, value)?)),
+    match (due, key) {
+        (Due::Rank, b"rank") => Some(Line::Rank(value)),
+        (Due::Row(n), _) if key == row_key(n)? => Some(Line::Row(n, value)),
+        (Due::Kind, b"kind") => Some(Line::Kind(value)),
+        (Due::Job, _) => job(key, value).map(Line::Job),
         _ => None,
     }
 }
@@ -49,8 +49,7 @@ pub fn split(line: &[u8]) -> Option<(&[u8], &[u8])>
 pub fn read<'a>(due: Due, line: &'a [u8]) -> Result<Line<'a>, LineFault>
     ensures { MatchResult result (Reads due line.now) (λ e. (e ≡ LineFault.Unexpected) × NoReading due line.now) }
 {
-    let Some((key, value)) = split(line) else {
-        return Err(LineFault::Unexpected);
-    };
-    keyed(due, key, value).ok_or(LineFault::Unexpected)
+    split(line)
+        .and_then(|(key, value)| keyed(due, key, value))
+        .ok_or(LineFault::Unexpected)
 }

@@ -19,6 +19,7 @@ mod tests {
     use crate::keys::read;
     use crate::letters::letter;
     use crate::line::{Due, Job, Line};
+    use crate::located::Located;
     use crate::reader::Reader;
     use std::test::Fail;
 
@@ -31,24 +32,21 @@ mod tests {
         let second = reader.next()?;
         assert_eq!(rt; second.number, 2);
         assert_eq!(rt; second.bytes, b"".as_slice());
-        match reader.next() {
-            Ok(_) => Err(Fail::new("a third line")),
-            Err(e) => {
-                assert_eq!(rt; (e.line, e.fault), (3, LineFault::Unfinished(2)));
-                Ok(())
-            },
-        }
+        let unfinished = Located {
+            line: 3,
+            fault: LineFault::Unfinished(2),
+        };
+        assert_eq!(rt; reader.next().err(), Some(unfinished));
+        Ok(())
     }
 
     #[test]
     fn a_product_has_two_words(rt: HostRuntime) -> Result<(), Fail> {
-        match read(Due::Job, b"product=12/3")? {
-            Line::Job(Job::Product(u, v)) => {
-                assert_eq!(rt; (u, v), (b"12".as_slice(), b"3".as_slice()));
-                Ok(())
-            },
-            _ => Err(Fail::new("no product")),
-        }
+        let Line::Job(Job::Product(u, v)) = read(Due::Job, b"product=12/3")? else {
+            return Err(Fail::new("no product"));
+        };
+        assert_eq!(rt; (u, v), (b"12".as_slice(), b"3".as_slice()));
+        Ok(())
     }
 
     #[test]

@@ -13,8 +13,5 @@ pub struct Located<F> {
 pub fn at<T, F>(line: usize, r: Result<T, F>) -> Result<T, Located<F>>
     ensures { result ≡ located line r }
 {
-    match r {
-        Ok(t) => Ok(t),
-        Err(fault) => Err(Located { line, fault }),
-    }
+    r.map_err(|fault| Located { line, fault })
 }

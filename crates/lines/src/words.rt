@@ -1,26 +1,20 @@
 // The words of a job's value, which a slash parts.
-ghost use Rattle.lines.specs.Words.{Parted};
+ghost use Rattle.std.specs.Prelude.{List, ℕ, MatchOption};
+ghost use Rattle.lines.specs.Words.{OneWord, TwoWords};
 
 use crate::bytes::cut;
 
-/// The words of a value.
-#[derive(Clone, Copy)]
-pub enum Words<'a> {
-    One(&'a [u8]),
-    Two(&'a [u8], &'a [u8]),
-    /// Three words or more.
-    More,
+/// The one word of a value without a slash.
+pub fn one_word(value: &[u8]) -> Option<&[u8]>
+    ensures { MatchOption result ((w : List ℕ) → OneWord value.now w → ⊥) (λ w. OneWord value.now w.now) }
+{
+    (!value.contains(&b'/')).then_some(value)
 }
 
-/// The words between the slashes of a value.
-pub fn split_words(value: &[u8]) -> Words<'_>
-    ensures { Parted value.now result }
+/// The two words of a value with one slash.
+pub fn two_words(value: &[u8]) -> Option<(&[u8], &[u8])>
+    ensures { MatchOption result ((u v : List ℕ) → TwoWords value.now u v → ⊥) (λ p. TwoWords value.now p.0.now p.1.now) }
 {
-    match cut(value, b'/') {
-        None => Words::One(value),
-        Some((first, rest)) => match cut(rest, b'/') {
-            None => Words::Two(first, rest),
-            Some(_) => Words::More,
-        },
-    }
+    let (first, rest) = cut(value, b'/')?;
+    Some((first, one_word(rest)?))
 }

@@ -1,20 +1,21 @@
 -- The places of the exponents of a row.
-use Rattle.std.proofs.Common.{◌≡◌, ℕ, zero, suc, ◌+◌, ◌*◌, ◌<◌, ◌≤◌, List, [], ◌∷◌, length, get_or, refl, ap, ◌∙◌, add-one, arith}
+use Rattle.std.proofs.Common.{◌≡◌, ℕ, zero, suc, ◌+◌, ◌*◌, ◌<◌, ◌≤◌, List, [], ◌∷◌, length, get_or, take, sum_by, refl, arith}
+use Rattle.std.proofs.lemmas.List.Sums.{sum_by-cons}
 use Rattle.sheets.specs.Rows.{exponent_text, column_place}
+use Rattle.sheets.specs.Fitting.{Fits, AllExponentsFit, Misfit}
 
-pub place_none : (es : List ℕ) → column_place es 0 ≡ 0
-place_none [] = refl
-place_none (e ∷ es) = refl
+-- the place of a column counts the bytes of the exponents before it, with one space behind each
+place_sum : (es : List ℕ) (c : ℕ) → sum_by (λ e. length (exponent_text e) + 1) (take c es) ≡ column_place es c
+place_sum [] zero = refl
+place_sum [] (suc c) = refl
+place_sum (e ∷ es) zero = refl
+place_sum (e ∷ es) (suc c) = omega (arith, sum_by-cons (λ e. length (exponent_text e) + 1) e (take c es), place_sum es c)
 
-place_suc : (es : List ℕ) (c : ℕ) → c < length es → column_place es (suc c) ≡ column_place es c + (length (exponent_text (get_or es c 0)) + 1)
-place_suc [] c h = absurd (omega arith)
-place_suc (e ∷ es) zero h = omega (arith, place_none es)
-place_suc (e ∷ es) (suc c) h = omega (arith, place_suc es c (omega arith))
+-- the first exponent that may not stand there
+pub misfit_at : (rows : List (List ℕ)) (r : ℕ) (es : List ℕ) (c : ℕ) → c < length es → AllExponentsFit rows r es c → (Fits rows r c (get_or es c 0) → ⊥) → Misfit rows r es (sum_by (λ e. length (exponent_text e) + 1) (take c es))
+misfit_at rows r es c h before wrong = record { column = c; inside = h; before = before; wrong = wrong; at = place_sum es c }
 
-pub place_more : (es : List ℕ) (c : ℕ) → c < length es → column_place es (c + 1) ≡ column_place es c + (length (exponent_text (get_or es c 0)) + 1)
-place_more es c h = ap (column_place es) (add-one c) ∙ place_suc es c h
-
-pub text_short : (e : ℕ) → length (exponent_text e) ≤ 3
+text_short : (e : ℕ) → length (exponent_text e) ≤ 3
 text_short (suc d) = omega arith
 text_short zero = omega arith
 

@@ -1,6 +1,7 @@
 -- From line to line of a sheet: what the lines so far led to, and where they are refused.
 use Rattle.std.proofs.Common.{◌≡◌, ℕ, List, [], ◌∷◌, ◌++◌, length, Ok, Err, Result, sym, refl, ap, ◌∙◌, subst, append_assoc, arith, MatchResult}
 use Rattle.coxeter.specs.Matrices.{matrix}
+use Rattle.coxeter.proofs.Matrices.{lawful_of}
 use Rattle.lines.specs.Cuts.{Cut}
 use Rattle.lines.specs.Reading.{Next}
 use Rattle.lines.specs.Located.{located}
@@ -15,7 +16,6 @@ use Rattle.sheets.specs.Reading.{Leads, RefusedFrom, unfinished, refused, NoShee
 use Rattle.sheets.specs.declared.drafts.RowsDraft.{RowsDraft}
 use Rattle.sheets.specs.declared.drafts.KindDraft.{KindDraft}
 use Rattle.sheets.specs.declared.drafts.CheckedDraft.{CheckedDraft}
-use Rattle.sheets.specs.declared.drafts.Sheet.{Sheet}
 use Rattle.sheets.specs.declared.faults.SheetFault.{SheetFault}
 use Rattle.sheets.proofs.TableRows.{filled_of}
 use Rattle.sheets.proofs.StageSteps.{drafted_rows}
@@ -26,6 +26,9 @@ leads_nowhere g r h = record { text = refl; count = refl; reached = h; input = r
 
 pub draft_reached : (d : RowsDraft) → Reached (rows_stage d)
 draft_reached d = (drafted_rows d.rank d.done d.rows d.some d.few d.left (filled_of d.rank d.done d.rows d.filled)).reached
+
+pub kind_reached : (d : KindDraft) → Reached (kind_stage d)
+kind_reached d = lawful_of (matrix d.group) d.group.lawful
 
 -- a line and what follows it
 pub cut_ended : {bs line rest : List ℕ} (front : List ℕ) → Cut 10 bs line rest → front ++ bs ≡ (front ++ ended line) ++ rest
@@ -81,15 +84,14 @@ module _ {g h : Stage} {a b : Reader} (first : Leads g a h b) where
   }
 
 -- ---- the kind's line
-pub sheet_read : {a b c : Reader} (d : KindDraft) (k : CheckedDraft) (s : Sheet) → Leads rank_due a (kind_stage d) b → KindRead d b c k → s.group ≡ k.group → s.kind ≡ k.kind → SheetRead a c s
-sheet_read {a} {b} {c} d k s so_far r same_group same_kind =
-    let group : matrix s.group ≡ matrix d.group = ap matrix (same_group ∙ r.checked.group) in
-    let kind = sym same_kind in
-    let whole : a.rest.now ≡ sheet_text (matrix d.group) k.kind ++ c.rest.now =
+pub sheet_read : {a b c : Reader} (d : KindDraft) (k : CheckedDraft) → Leads rank_due a (kind_stage d) b → KindRead d b c k → SheetRead a c k.sheet
+sheet_read {a} {b} {c} d k so_far r =
+    let group : matrix k.sheet.group ≡ matrix d.group = ap matrix r.checked.group in
+    let whole : a.rest.now ≡ sheet_text (matrix d.group) k.sheet.kind ++ c.rest.now =
     so_far.text ∙ cut_ended (read_text (kind_stage d)) r.cut ∙ ap (λ t. (read_text (kind_stage d) ++ ended t) ++ c.rest.now) r.checked.text in
     record {
-      text = whole ∙ (λ i. sheet_text (sym group i) (kind i) ++ c.rest.now);
-      carried = subst (λ m. Carries s.kind m) (sym group) (subst (λ x. Carries x (matrix d.group)) kind r.checked.carried);
+      text = whole ∙ (λ i. sheet_text (sym group i) k.sheet.kind ++ c.rest.now);
+      carried = subst (Carries k.sheet.kind) (sym group) r.checked.carried;
       count = omega (arith, so_far.count, r.count, ap length group);
       input = r.input ∙ so_far.input;
     }

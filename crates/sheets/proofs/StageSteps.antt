@@ -1,14 +1,16 @@
 -- From one stage of a sheet to the next.
-use Rattle.std.proofs.Common.{◌≡◌, ℕ, ◌+◌, ◌-◌, ◌<◌, ◌≤◌, List, [], ◌∷◌, ◌++◌, length, get_or, take, set, sym, refl, ap, ◌∙◌, subst, arith}
+use Rattle.std.proofs.Common.{◌≡◌, ℕ, ◌+◌, ◌<◌, ◌≤◌, List, [], ◌∷◌, ◌++◌, length, take, set, sym, refl, ap, ◌∙◌, subst, arith, length-append}
 use Rattle.coxeter.specs.Groups.{Matrix}
 use Rattle.coxeter.specs.Tables.{cut}
 use Rattle.lines.specs.Lines.{row_key_bytes}
 use Rattle.sheets.specs.Rows.{row_text, Spells, Stops}
 use Rattle.sheets.specs.Fitting.{Misfit}
 use Rattle.sheets.specs.Filling.{part, Filled}
-use Rattle.sheets.specs.Texts.{keyed, ended, digit, draft_text}
+use Rattle.sheets.specs.Texts.{keyed, ended, draft_text}
 use Rattle.sheets.specs.Stages.{Stage, row_due, kind_due, Advances, Drafted, WrongRow, WrongEntry, key_due}
-use Rattle.sheets.proofs.TableRows.{part_length, part_wide, part_more, filled_part, filled_lawful, misfit_part}
+use Rattle.sheets.specs.Drafts.{FitsNext}
+use Rattle.sheets.specs.declared.drafts.RowsDraft.{RowsDraft}
+use Rattle.sheets.proofs.TableRows.{part_length, part_wide, part_more, filled_of, filled_more, filled_part, filled_lawful, misfit_part}
 use Rattle.sheets.proofs.SheetTexts.{draft_more}
 
 -- ---- the stage of a table of rows
@@ -34,28 +36,37 @@ drafted_kind n k rows m low high same is f =
       reached = filled_lawful n rows low high (subst (λ x. Filled n x rows) same f);
     }))
 
--- ---- the first line
--- the value of the rank's line, where it is one digit
-pub rank_digit : (v : List ℕ) → length v ≡ 1 → 49 ≤ get_or v 0 0 → v ≡ digit (get_or v 0 0 - 48)
-rank_digit [] l h = absurd (omega arith)
-rank_digit (x ∷ []) l h = let back : x ≡ 48 + (x - 48) = omega arith in λ i. back i ∷ []
-rank_digit (x ∷ y ∷ v) l h = absurd (omega arith)
+-- ---- a draft with its next row
+module _ (d : RowsDraft) (row : List ℕ) (long : d.rank ≤ length row) (inside : d.done < length d.rows) (next : FitsNext d (take d.rank row)) where
+  pub next_filled : Filled d.rank (d.done + 1) (set d.rows d.done row)
+  next_filled = filled_more d.rank d.done d.rows row long d.left inside (filled_of d.rank d.done d.rows d.filled) next.writable next.fit
+
+  next_part : part d.rank (d.done + 1) (set d.rows d.done row) ≡ part d.rank d.done d.rows ++ take d.rank row ∷ []
+  next_part = part_more d.rank d.done d.rows row long d.left inside
+
+  pub next_rows : d.done + 1 < d.rank → Drafted d.rank (part d.rank d.done d.rows ++ take d.rank row ∷ []) (row_due d.rank (part d.rank (d.done + 1) (set d.rows d.done row)))
+  next_rows lt =
+      subst (λ rows. Drafted d.rank rows (row_due d.rank (part d.rank (d.done + 1) (set d.rows d.done row)))) next_part
+      (drafted_rows d.rank (d.done + 1) (set d.rows d.done row) d.some d.few lt next_filled)
+
+  pub next_kind : (m : Matrix) → d.done + 1 ≡ d.rank → m ≡ cut d.rank (set d.rows d.done row) → Drafted d.rank (part d.rank d.done d.rows ++ take d.rank row ∷ []) (kind_due m)
+  next_kind m full is =
+      subst (λ rows. Drafted d.rank rows (kind_due m)) next_part
+      (drafted_kind d.rank (d.done + 1) (set d.rows d.done row) m d.some d.few full is next_filled)
 
 -- ---- a row's line
 module _ (n k : ℕ) (rows : List (List ℕ)) (value : List ℕ) where
   same_key : keyed (row_key_bytes (k + 1)) value ≡ keyed (row_key_bytes (length (part n k rows) + 1)) value
   same_key = ap (λ x. keyed (row_key_bytes (x + 1)) value) (sym (part_length n k rows))
 
-  pub row_added : (new : List ℕ) (h : Stage) → n ≤ length new → k < n → k < length rows → value ≡ row_text (take n new) → Drafted n (part n (k + 1) (set rows k new)) h → Advances (row_due n (part n k rows)) (keyed (row_key_bytes (k + 1)) value) h
-  row_added new h wide lt inside spelled d =
-      let more = part_more n k rows new wide lt inside in
-      record {
-        text =
-            d.text ∙ ap (draft_text n) more ∙ draft_more n (part n k rows) (take n new)
-            ∙ ap (λ v. draft_text n (part n k rows) ++ ended v) (ap (keyed (row_key_bytes (length (part n k rows) + 1))) (sym spelled) ∙ sym same_key);
-        count = omega (arith, d.count, part_length n (k + 1) (set rows k new), part_length n k rows);
-        reached = d.reached;
-      }
+  pub row_added : (new : List ℕ) (h : Stage) → value ≡ row_text new → Drafted n (part n k rows ++ new ∷ []) h → Advances (row_due n (part n k rows)) (keyed (row_key_bytes (k + 1)) value) h
+  row_added new h spelled d = record {
+    text =
+        d.text ∙ draft_more n (part n k rows) new
+        ∙ ap (λ v. draft_text n (part n k rows) ++ ended v) (ap (keyed (row_key_bytes (length (part n k rows) + 1))) (sym spelled) ∙ sym same_key);
+    count = omega (arith, d.count, length-append (part n k rows) (new ∷ []));
+    reached = d.reached;
+  }
 
   pub row_unspelled : (right : ℕ) → Stops row_text n value right → WrongRow (row_due n (part n k rows)) (keyed (row_key_bytes (k + 1)) value) (5 + right)
   row_unspelled right s = record {

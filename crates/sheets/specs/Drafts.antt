@@ -1,6 +1,8 @@
 -- What a draft says of the lines that were read, and what a finished sheet is.
 use Rattle.std.specs.Prelude.{◌≡◌, ℕ, List, codes}
 use Rattle.coxeter.specs.Matrices.{matrix}
+use Rattle.sheets.specs.Rows.{Writable}
+use Rattle.sheets.specs.Fitting.{AllExponentsFit}
 use Rattle.sheets.specs.Filling.{part}
 use Rattle.sheets.specs.Kinds.{kind_name, Carries}
 use Rattle.sheets.specs.Texts.{keyed}
@@ -24,8 +26,13 @@ abbrev pub draft_stage : Draft → Stage
 draft_stage (Rows d) = rows_stage d
 draft_stage (Kind d) = kind_stage d
 
+-- the exponents are the row that comes next: as many as the rank, which can be written and may stand there
+pub record FitsNext (d : RowsDraft) (es : List ℕ) : Type 0 where
+  pub writable : Writable es
+  pub fit : AllExponentsFit d.rows d.done es d.rank
+
 -- the kind's line makes a checked draft of d: it names a kind that can carry the group
 pub record Checked (d : KindDraft) (line : List ℕ) (c : CheckedDraft) : Type 0 where
-  pub text : line ≡ keyed (codes "kind") (kind_name c.kind)
-  pub group : c.group ≡ d.group
-  pub carried : Carries c.kind (matrix d.group)
+  pub text : line ≡ keyed (codes "kind") (kind_name c.sheet.kind)
+  pub group : c.sheet.group ≡ d.group
+  pub carried : Carries c.sheet.kind (matrix d.group)

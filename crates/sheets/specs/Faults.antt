@@ -1,7 +1,8 @@
--- The number, the place and the layer of a sheet's fault.
+-- What is reported of a sheet's fault.
 use Rattle.std.specs.Prelude.{ℕ}
 use Rattle.refusals.specs.declared.layer.Layer.{Layer}
 use Rattle.refusals.specs.declared.layer.Layer.TheVariants as layer
+use Rattle.refusals.specs.declared.report.Report.{Report}
 use Rattle.lines.specs.Faults.{line_number, line_place}
 use Rattle.sheets.specs.declared.faults.SheetFault.{SheetFault}
 use Rattle.sheets.specs.declared.faults.SheetFault.TheVariants.{Line, Rank, Row, Entry, Kind}
@@ -29,3 +30,7 @@ sheet_layer Rank = layer.Sheet
 sheet_layer (Row at) = layer.Sheet
 sheet_layer (Entry at) = layer.Sheet
 sheet_layer Kind = layer.Sheet
+
+-- what is reported of the fault
+abbrev pub sheet_report : SheetFault → Report
+sheet_report f = record { number = sheet_number f; place = sheet_place f; layer = sheet_layer f }

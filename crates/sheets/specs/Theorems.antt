@@ -51,8 +51,8 @@ LinesAnsweredOnce = (g : Stage) → Reached g → (line : List ℕ) → OneOutco
 
 -- the kind's line makes one checked draft of d at most, and then it is not refused
 pub record OneKind (d : KindDraft) (line : List ℕ) : Type 0 where
-  pub group : (b c : CheckedDraft) → Checked d line b → Checked d line c → b.group ≡ c.group
-  pub kind : (b c : CheckedDraft) → Checked d line b → Checked d line c → b.kind ≡ c.kind
+  pub group : (b c : CheckedDraft) → Checked d line b → Checked d line c → b.sheet.group ≡ c.sheet.group
+  pub kind : (b c : CheckedDraft) → Checked d line b → Checked d line c → b.sheet.kind ≡ c.sheet.kind
   pub either : (c : CheckedDraft) (f : SheetFault) → Checked d line c → Refuses (kind_stage d) line f → ⊥
 
 -- every kind's line is answered once

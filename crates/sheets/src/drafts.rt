@@ -32,18 +32,16 @@ pub enum Draft {
     Kind(KindDraft),
 }
 
-/// A draft whose kind's line was accepted, so that it can be finished.
-#[derive(Drop)]
-pub struct CheckedDraft {
-    pub(crate) group: Group,
-    pub(crate) kind: Kind,
-    ghost carried: { ∥ Carries kind (matrix group) ∥₁ },
-}
-
 /// A finished sheet: a group, and a kind that can carry it.
 #[derive(Drop)]
 pub struct Sheet {
     pub(crate) group: Group,
     pub(crate) kind: Kind,
     ghost carried: { ∥ Carries kind (matrix group) ∥₁ },
+}
+
+/// A draft whose kind's line was accepted, so that its sheet can be finished.
+#[derive(Drop)]
+pub struct CheckedDraft {
+    pub(crate) sheet: Sheet,
 }

@@ -1,11 +1,12 @@
 // What a sheet is refused for.
 ghost use Rattle.std.specs.Prelude.{◌≡◌};
 ghost use Rattle.sheets.specs.declared.faults.SheetFault.{SheetFault};
-ghost use Rattle.sheets.specs.Faults.{sheet_number, sheet_place, sheet_layer};
+ghost use Rattle.sheets.specs.Faults.{sheet_report};
 
 use lines::faults::LineFault;
 use refusals::layer::Layer;
 use refusals::refusal::Refusal;
+use refusals::report::Report;
 
 /// The fault of a sheet: that of its line, or its own.
 #[derive(Clone, Copy, Debug, PartialEq)]
@@ -31,34 +32,20 @@ impl From<LineFault> for SheetFault {
 }
 
 impl Refusal for SheetFault {
-    ghost numbered = { sheet_number };
+    ghost reported = { sheet_report };
 
-    ghost placed = { sheet_place };
-
-    ghost arisen = { sheet_layer };
-
-    fn number(&self) -> u8 {
-        match self {
-            SheetFault::Line(fault) => fault.number(),
-            SheetFault::Rank => 3,
-            SheetFault::Row(_) => 4,
-            SheetFault::Entry(_) => 5,
-            SheetFault::Kind => 6,
-        }
-    }
-
-    fn place(&self) -> usize {
-        match self {
-            SheetFault::Line(fault) => fault.place(),
-            SheetFault::Row(at) | SheetFault::Entry(at) => *at,
-            SheetFault::Rank | SheetFault::Kind => 5,
-        }
-    }
-
-    fn layer(&self) -> Layer {
-        match self {
-            SheetFault::Line(fault) => fault.layer(),
-            _ => Layer::Sheet,
+    fn report(&self) -> Report {
+        let (number, place) = match *self {
+            SheetFault::Line(fault) => return fault.report(),
+            SheetFault::Rank => (3, 5),
+            SheetFault::Row(at) => (4, at),
+            SheetFault::Entry(at) => (5, at),
+            SheetFault::Kind => (6, 5),
+        };
+        Report {
+            number,
+            place,
+            layer: Layer::Sheet,
         }
     }
 }

@@ -1,8 +1,10 @@
-// Which exponents a row may have, below the rows that are there.
-ghost use Rattle.std.specs.Prelude.{◌≡◌, ◌<◌, ◌≤◌, length, Decides, MatchOption};
-ghost use Rattle.coxeter.specs.Tables.{place};
+// Which exponents the next row of a draft may have.
+ghost use Rattle.std.specs.Prelude.{◌≡◌, ◌+◌, ◌≤◌, length, sum_by, Decides, MatchOption};
 ghost use Rattle.sheets.specs.Rows.{exponent_text};
 ghost use Rattle.sheets.specs.Fitting.{Fits, AllExponentsFit, Misfit};
+
+use crate::drafts::RowsDraft;
+use std::cmp::Ordering;
 
 // How many bytes an exponent is written in.
 fn width(e: u8) -> usize
@@ -11,41 +13,33 @@ fn width(e: u8) -> usize
     if e == 0 { 3 } else { 1 }
 }
 
-// What stands in row `i` at column `j`.
-fn entry(rows: &[[u8; 8]; 8], i: usize, j: usize) -> u8
-    requires { (i < 8) × (j < 8) }
-    ensures { result ≡ place rows.now i j }
+// How many bytes the exponents are written in, with one behind each.
+fn written(row: &[u8]) -> usize
+    requires { length row.now ≤ 8 }
+    ensures { result ≡ sum_by (λ e. length (exponent_text e) + 1) row.now }
 {
-    rows[i][j]
+    row.iter().map(|e| width(*e) + 1).sum()
 }
 
-// Whether `e` may stand in row `r` at column `c`.
-fn fits(rows: &[[u8; 8]; 8], r: usize, c: usize, e: u8) -> bool
-    requires { r < 8 }
-    ensures { Decides result (Fits rows.now r c e) }
-{
-    if c == r {
-        e == 1
-    } else if e == 1 {
-        false
-    } else if c < r {
-        e == entry(rows, c, r)
-    } else {
-        true
-    }
-}
-
-// Where the first exponent stands that may not stand in row `r`: its place in the row's bytes.
-pub(crate) fn misfit(rows: &[[u8; 8]; 8], r: usize, row: &[u8]) -> Option<usize>
-    requires { (r < 8) × (length row.now ≤ 8) }
-    ensures { MatchOption result (AllExponentsFit rows.now r row.now (length row.now)) (Misfit rows.now r row.now) }
-{
-    let mut place = 0;
-    for (c, e) in row.iter().enumerate() {
-        if !fits(rows, r, c, *e) {
-            return Some(place);
+impl RowsDraft {
+    // Whether `e` may stand in the next row at column `c`.
+    fn fits(&self, c: usize, e: u8) -> bool
+        ensures { Decides result (Fits self.now.rows self.now.done c e) }
+    {
+        let r = self.done as usize;
+        match c.cmp(&r) {
+            Ordering::Less => e != 1 && e == self.rows[c][r],
+            Ordering::Equal => e == 1,
+            Ordering::Greater => e != 1,
         }
-        place += width(*e) + 1;
     }
-    None
+
+    // Where the first exponent stands that may not stand in the next row: its place in the row's bytes.
+    pub(crate) fn misfit(&self, row: &[u8]) -> Option<usize>
+        requires { length row.now ≤ 8 }
+        ensures { MatchOption result (AllExponentsFit self.now.rows self.now.done row.now (length row.now)) (Misfit self.now.rows self.now.done row.now) }
+    {
+        let c = row.iter().enumerate().position(|(c, e)| !self.fits(c, *e))?;
+        Some(written(&row[..c]))
+    }
 }

@@ -1,10 +1,10 @@
 // The kinds of carrier that a sheet can ask for.
-ghost use Rattle.std.specs.Prelude.{◌≡◌, Decides, MatchOption, ◌≢◌};
+ghost use Rattle.std.specs.Prelude.{Decides};
 ghost use Rattle.coxeter.specs.Matrices.{matrix};
-ghost use Rattle.sheets.specs.Kinds.{kind_name, Carries};
+ghost use Rattle.sheets.specs.Kinds.{Named, Carries};
 
+use crate::faults::SheetFault;
 use coxeter::group::Group;
-use lines::bytes::same;
 
 /// What carries the elements of the sheet's group.
 #[derive(Clone, Copy, Debug, PartialEq)]
@@ -17,22 +17,22 @@ pub enum Kind {
     Line,
 }
 
-impl Kind {
-    // The kind that a value names.
-    pub(crate) fn named(value: &[u8]) -> Option<Kind>
-        ensures { MatchOption result ((k : _) → value.now ≢ kind_name k) (λ k. value.now ≡ kind_name k) }
-    {
-        if same(value, b"whole") {
-            Some(Kind::Whole)
-        } else if same(value, b"golden") {
-            Some(Kind::Golden)
-        } else if same(value, b"line") {
-            Some(Kind::Line)
-        } else {
-            None
+impl TryFrom<&[u8]> for Kind {
+    type Error = SheetFault;
+
+    ghost try_from_gives = { λ value. Named value.now };
+
+    fn try_from(value: &[u8]) -> Result<Kind, SheetFault> {
+        match value {
+            b"whole" => Ok(Kind::Whole),
+            b"golden" => Ok(Kind::Golden),
+            b"line" => Ok(Kind::Line),
+            _ => Err(SheetFault::Kind),
         }
     }
+}
 
+impl Kind {
     /// Whether this kind can carry the group.
     pub fn carries(self, group: &Group) -> bool
         ensures { Decides result (Carries self (matrix group.now)) }

@@ -1,7 +1,7 @@
 // Reading a whole sheet, line after line.
 ghost use Rattle.std.specs.Prelude.{◌<◌, length, MatchResult, OnOk};
 ghost use Rattle.lines.specs.Reading.{Next};
-ghost use Rattle.sheets.specs.Stages.{rank_due, Reached};
+ghost use Rattle.sheets.specs.Stages.{rank_due};
 ghost use Rattle.sheets.specs.Drafts.{rows_stage, kind_stage};
 ghost use Rattle.sheets.specs.Reading.{NoSheetLine, KindRead, SheetRead, SheetRefused, Leads, RefusedFrom};
 
@@ -15,13 +15,10 @@ fn next_line<'a>(reader: &mut Reader<'a>) -> Result<Numbered<'a>, Located<SheetF
     ensures line { MatchResult result (Next reader.old reader.new) (NoSheetLine reader.old reader.new) }
     ensures shorter { OnOk result (length reader.new.rest.now < length reader.old.rest.now) }
 {
-    match reader.next() {
-        Ok(line) => Ok(line),
-        Err(unfinished) => Err(Located {
-            line: unfinished.line,
-            fault: SheetFault::from(unfinished.fault),
-        }),
-    }
+    reader.next().map_err(|unfinished| Located {
+        line: unfinished.line,
+        fault: SheetFault::from(unfinished.fault),
+    })
 }
 
 // Reads the rank's line.
@@ -47,7 +44,6 @@ fn rows(reader: &mut Reader, mut draft: RowsDraft) -> Result<KindDraft, Located<
 
 // Reads the kind's line.
 fn kind(reader: &mut Reader, draft: KindDraft) -> Result<CheckedDraft, Located<SheetFault>>
-    requires { Reached (kind_stage draft) }
     ensures { MatchResult result (KindRead draft reader.old reader.new) (RefusedFrom (kind_stage draft) reader.old reader.new) }
 {
     let line = next_line(reader)?;

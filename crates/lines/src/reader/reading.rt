@@ -5,7 +5,7 @@ ghost use Rattle.lines.specs.Reading.{Next, NoNext};
 use super::{MOST_BYTES, Numbered, Reader};
 use crate::bytes::cut;
 use crate::faults::LineFault;
-use crate::located::Located;
+use crate::located::{Located, at};
 
 impl<'a> Reader<'a> {
     /// A reader over the first 65,536 bytes of the input, at its first line.
@@ -14,7 +14,7 @@ impl<'a> Reader<'a> {
         ensures rest { result.rest.now ≡ result.input.now }
         ensures lines { result.lines ≡ 0 }
     {
-        let input = &input[0..input.len().min(MOST_BYTES)];
+        let input = &input[..MOST_BYTES.min(input.len())];
         Reader {
             input,
             rest: input,
@@ -28,17 +28,11 @@ impl<'a> Reader<'a> {
         ensures shorter { OnOk result (length self.new.rest.now < length self.old.rest.now) }
     {
         let number = self.lines + 1;
-        match cut(self.rest, b'\n') {
-            Some((bytes, rest)) => {
-                self.rest = rest;
-                self.lines = number;
-                Ok(Numbered { number, bytes })
-            }
-            None => Err(Located {
-                line: number,
-                fault: LineFault::Unfinished(self.rest.len()),
-            }),
-        }
+        let found = cut(self.rest, b'\n').ok_or(LineFault::Unfinished(self.rest.len()));
+        let (bytes, rest) = at(number, found)?;
+        self.rest = rest;
+        self.lines = number;
+        Ok(Numbered { number, bytes })
     }
 
     /// Whether nothing is left of the input.

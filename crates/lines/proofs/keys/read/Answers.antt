@@ -1,10 +1,9 @@
-use Rattle.std.proofs.Common.{refl}
-use Rattle.lines.proofs.Cutting.{not_free}
+use Rattle.std.proofs.Common.{rules, MatchOption}
+use Rattle.lines.specs.Lines.{NoReading, Reads}
 use Rattle.lines.proofs.Keyed.{reading}
 use Rattle.lines.proofs.keys.read.Goals as goal
 
-pub returns-in_default : goal.returns-in_default
-returns-in_default c = (refl, λ l r. not_free r.cut c.in_default.ensures)
-
 pub returns : goal.returns
-returns c = rw c.ok_or.ensures.value (reading c.args.due c.keyed.result c.in-Some.ensures c.keyed.ensures)
+returns c =
+    let found : MatchOption c.and_then.result (NoReading c.args.due c.args.line.now) (Reads c.args.due c.args.line.now) = reading _ _ _ c.split.result c.split.ensures (search rules) in
+    search rules
