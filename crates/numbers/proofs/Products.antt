@@ -1,5 +1,5 @@
 -- Products of small numbers: their bounds, and that they fit the machine's numbers.
-use Rattle.std.proofs.Common.{◌≡◌, ℕ, suc, ◌+◌, ◌*◌, ◌≤◌, ℤ, pos, negsuc, ◌+ℤ◌, ◌*ℤ◌, ◌≤ℤ◌, sym, ap, ◌∙◌, subst, mul-le-mul, arith, w64, SFits, to_z, of_z}
+use Rattle.std.proofs.Common.{◌≡◌, ℕ, suc, ◌+◌, ◌*◌, ◌≤◌, ℤ, pos, negsuc, ◌+ℤ◌, ◌*ℤ◌, sym, ap, ◌∙◌, subst, mul-le-mul, arith, w64, SFits, to_z, of_z}
 use Rattle.std.proofs.lemmas.Int.{ints, to_z-of_z}
 use Rattle.numbers.specs.Kinds.{Small}
 
@@ -25,19 +25,6 @@ product_small (negsuc m) (negsuc n) h i =
     let b : suc n ≤ 1000000000000 = omega (arith, ints) in
     let c : suc m * suc n ≤ 128000000000000 = mul-le-mul a b in
     record { low = omega (arith, ints); high = omega (arith, ints) }
-
-pub square_bounds : (x : ℤ) → negsuc 299999999 ≤ℤ x → x ≤ℤ pos 300000000 → (pos 0 ≤ℤ (x *ℤ x)) × ((x *ℤ x) ≤ℤ pos 90000000000000000)
-square_bounds (pos n) h k =
-    let b : n ≤ 300000000 = omega (arith, ints) in
-    let m : n * n ≤ 90000000000000000 = mul-le-mul b b in
-    (omega (arith, ints), omega (arith, ints))
-square_bounds (negsuc n) h k =
-    let b : suc n ≤ 300000000 = omega (arith, ints) in
-    let m : suc n * suc n ≤ 90000000000000000 = mul-le-mul b b in
-    (omega (arith, ints), omega (arith, ints))
-
-pub square_fits : (x : ℤ) → negsuc 299999999 ≤ℤ x → x ≤ℤ pos 300000000 → SFits w64 (x *ℤ x)
-square_fits x h k = let b = square_bounds x h k in omega (arith, ints)
 
 -- ---- sums in the machine's numbers
 -- the number that a word of 64 bits holds for z
