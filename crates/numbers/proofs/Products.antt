@@ -1,29 +1,15 @@
 -- Products of small numbers: their bounds, and that they fit the machine's numbers.
-use Rattle.std.proofs.Common.{◌≡◌, ℕ, suc, ◌+◌, ◌*◌, ◌≤◌, ℤ, pos, negsuc, ◌+ℤ◌, ◌*ℤ◌, sym, ap, ◌∙◌, subst, mul-le-mul, arith, w64, SFits, to_z, of_z}
-use Rattle.std.proofs.lemmas.Int.{ints, to_z-of_z}
+use Rattle.std.proofs.Common.{unsigned_abs, ◌≡◌, ℕ, ◌+◌, ◌*◌, ◌≤◌, ℤ, ◌+ℤ◌, ◌*ℤ◌, sym, ap, ◌∙◌, subst, mul-le-mul, arith, w64, SFits, to_z, of_z}
+use Rattle.std.proofs.lemmas.Int.{ints, to_z-of_z, unsigned_abs-mul}
 use Rattle.numbers.specs.Kinds.{Small}
 
 -- the product of a number of at most 128 and one of at most 10¹²
 pub product_small : (k x : ℤ) → Small 128 k → Small 1000000000000 x → Small 128000000000000 (k *ℤ x)
-product_small (pos m) (pos n) h i =
-    let a : m ≤ 128 = omega (arith, ints) in
-    let b : n ≤ 1000000000000 = omega (arith, ints) in
-    let c : m * n ≤ 128000000000000 = mul-le-mul a b in
-    record { low = omega (arith, ints); high = omega (arith, ints) }
-product_small (pos m) (negsuc n) h i =
-    let a : m ≤ 128 = omega (arith, ints) in
-    let b : suc n ≤ 1000000000000 = omega (arith, ints) in
-    let c : m * suc n ≤ 128000000000000 = mul-le-mul a b in
-    record { low = omega (arith, ints); high = omega (arith, ints) }
-product_small (negsuc m) (pos n) h i =
-    let a : suc m ≤ 128 = omega (arith, ints) in
-    let b : n ≤ 1000000000000 = omega (arith, ints) in
-    let c : suc m * n ≤ 128000000000000 = mul-le-mul a b in
-    record { low = omega (arith, ints); high = omega (arith, ints) }
-product_small (negsuc m) (negsuc n) h i =
-    let a : suc m ≤ 128 = omega (arith, ints) in
-    let b : suc n ≤ 1000000000000 = omega (arith, ints) in
-    let c : suc m * suc n ≤ 128000000000000 = mul-le-mul a b in
+product_small k x h i =
+    let a : unsigned_abs k ≤ 128 = omega (arith, ints) in
+    let b : unsigned_abs x ≤ 1000000000000 = omega (arith, ints) in
+    let c : unsigned_abs k * unsigned_abs x ≤ 128000000000000 = mul-le-mul a b in
+    let e = unsigned_abs-mul k x in
     record { low = omega (arith, ints); high = omega (arith, ints) }
 
 -- ---- sums in the machine's numbers
