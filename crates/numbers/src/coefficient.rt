@@ -13,15 +13,6 @@ pub struct Coefficient {
     golden: i8,
 }
 
-/// The product k x.
-fn scaled(k: i8, x: i64) -> i64
-    requires { Small 1000000000000 x }
-    ensures value { result ≡ k *ℤ x }
-    ensures small { Small 128000000000000 result }
-{
-    k as i64 * x
-}
-
 impl Coefficient {
     /// The coefficient 0.
     pub fn zero() -> Coefficient
@@ -58,8 +49,7 @@ impl Coefficient {
         ensures whole { Small 512000000000000 result.0 }
         ensures golden { Small 512000000000000 result.1 }
     {
-        let whole = scaled(self.whole, a) + scaled(self.golden, b);
-        let golden = scaled(self.whole, b) + scaled(self.golden, a) + scaled(self.golden, b);
-        (whole, golden)
+        let (c, d) = (i64::from(self.whole), i64::from(self.golden));
+        (c * a + d * b, c * b + d * a + d * b)
     }
 }
