@@ -14,11 +14,8 @@ use Rattle.coxeter.specs.Moves.{Word}
 use Rattle.coxeter.specs.Pairs.{Path, path_exponent}
 use Rattle.coxeter.proofs.Exacts.{same_parts}
 use Rattle.coxeter.specs.Points.{stepped, coefficient, coefficient_of}
-use Rattle.carriers.specs.Rows.{Shows, full_frame}
-use Rattle.carriers.specs.Carriers.{Laws}
-use Rattle.coxeter.specs.Matrices.{matrix}
-use Rattle.coxeter.specs.declared.group.Group.{Group}
-use Rattle.carriers.proofs.Standing.{step_shows, full_laws}
+use Rattle.carriers.specs.Rows.{Shows}
+use Rattle.carriers.proofs.Standing.{step_shows}
 use Rattle.carriers.specs.Lines.{gaps, exchanged, Arranged, Stands}
 
 pub path_of : (g : Matrix) → ∥ Path g ∥₁ → Path g
@@ -145,16 +142,3 @@ gap_negative x y = by (cases_lt x y)
         let a : ltb x y ≡ false = le-ltb x y h in
         let b : lt_z (pos 2 *ℤ (pos x -ℤ pos y) +ℤ pos 0) (pos 0) ≡ false = sym (omega (arith, ints)) in
         a ∙ sym (cond-false _ _ _ b)
-
-pub line_laws : (gr : Group) (row : List ℕ) → Laws (full_frame (matrix gr)) (λ w. Stands (matrix gr) row w)
-line_laws gr row =
-    let l = full_laws gr (gaps row) in
-    record {
-      lawful = l.lawful;
-      letters = l.letters;
-      identity = l.identity;
-      reach_joined = l.reach_joined;
-      within = λ w h. l.within w h.shows;
-      at_joined = λ u w j h. record { arranged = h.arranged; shows = l.at_joined u w j h.shows };
-      one_element = λ u w h k. l.one_element u w h.shows k.shows;
-    }

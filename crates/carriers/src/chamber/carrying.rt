@@ -1,7 +1,8 @@
 //! The chamber as a carrier.
 
-ghost use Rattle.std.specs.Prelude.{◌≡◌, []};
-ghost use Rattle.carriers.specs.Carriers.{Laws, Stepped};
+ghost use Rattle.std.specs.Prelude.{◌≡◌};
+ghost use Rattle.carriers.specs.Carriers.{BroughtHome, Stepped};
+ghost use Rattle.carriers.specs.CarrierLaws.{chamber_laws};
 ghost use Rattle.carriers.specs.Chambers.{chamber_frame, chamber_at, chamber_beyond};
 
 use crate::carrier::Carrier;
@@ -13,6 +14,8 @@ impl<'a, N: Number> Carrier for Chamber<'a, N> {
     ghost frame = { chamber_frame N.Number.fits };
 
     ghost at = { chamber_at N.Number.value };
+
+    ghost laws = { λ c. chamber_laws N.Number.value c.group c.lent.row.now c.wide N.Number.fits N.Number.unit N.Number.within };
 
     fn rank(&self) -> u8 {
         self.group.rank()
@@ -30,9 +33,7 @@ impl<'a, N: Number> Carrier for Chamber<'a, N> {
     }
 
     fn home(&mut self)
-        ensures same { chamber_frame N.Number.fits self.new ≡ chamber_frame N.Number.fits self.old }
-        ensures laws { Laws (chamber_frame N.Number.fits self.new) (chamber_at N.Number.value self.new) }
-        ensures here { chamber_at N.Number.value self.new [] }
+        ensures home { BroughtHome (chamber_frame N.Number.fits) (chamber_at N.Number.value) self.old self.new }
         ensures beyond { chamber_beyond self.new ≡ chamber_beyond self.old }
     {
         let n = self.group.rank();

@@ -5,7 +5,6 @@ ghost use Rattle.coxeter.specs.Groups.{rank as rank_of};
 ghost use Rattle.coxeter.specs.Moves.{Word};
 ghost use Rattle.coxeter.specs.Matrices.{matrix};
 ghost use Rattle.carriers.specs.Rows.{fitting_frame, AllFit};
-ghost use Rattle.carriers.specs.Carriers.{Laws};
 ghost use Rattle.carriers.specs.Openings.{Carried, Opens, Checked};
 ghost use Rattle.carriers.specs.Chambers.{chamber_frame, chamber_at, chamber_beyond};
 
@@ -38,7 +37,6 @@ impl<'a, N: Number> Chamber<'a, N> {
     pub fn make(group: Group, row: &'a mut [N]) -> Chamber<'a, N>
         requires { Opens (rank_of (matrix group)) (length row.old) (Carried N.Number.fits (matrix group)) }
         ensures frame { chamber_frame N.Number.fits result ≡ fitting_frame N.Number.fits (matrix group) }
-        ensures laws { Laws (chamber_frame N.Number.fits result) (chamber_at N.Number.value result) }
         ensures home { chamber_at N.Number.value result [] }
         ensures reach { (w : Word) → Decides ((chamber_frame N.Number.fits result).reach w) (AllFit N.Number.fits (matrix group) w) }
         ensures beyond { chamber_beyond result ≡ drop (rank_of (matrix group)) row.old }

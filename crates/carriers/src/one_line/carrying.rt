@@ -1,7 +1,8 @@
 //! One-line notation as a carrier.
 
-ghost use Rattle.std.specs.Prelude.{◌≡◌, []};
-ghost use Rattle.carriers.specs.Carriers.{Laws, Stepped};
+ghost use Rattle.std.specs.Prelude.{◌≡◌};
+ghost use Rattle.carriers.specs.Carriers.{BroughtHome, Stepped};
+ghost use Rattle.carriers.specs.CarrierLaws.{line_laws};
 ghost use Rattle.carriers.specs.OneLines.{line_frame, line_at, line_beyond};
 
 use crate::carrier::Carrier;
@@ -12,6 +13,8 @@ impl<'a> Carrier for OneLine<'a> {
     ghost frame = { line_frame };
 
     ghost at = { line_at };
+
+    ghost laws = { λ c. line_laws c.group c.lent.row.now };
 
     fn rank(&self) -> u8 {
         self.group.rank()
@@ -29,9 +32,7 @@ impl<'a> Carrier for OneLine<'a> {
     }
 
     fn home(&mut self)
-        ensures same { line_frame self.new ≡ line_frame self.old }
-        ensures laws { Laws (line_frame self.new) (line_at self.new) }
-        ensures here { line_at self.new [] }
+        ensures home { BroughtHome line_frame line_at self.old self.new }
         ensures beyond { line_beyond self.new ≡ line_beyond self.old }
     {
         let n = self.group.rank();

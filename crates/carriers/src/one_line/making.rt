@@ -6,7 +6,6 @@ ghost use Rattle.coxeter.specs.Moves.{Word, Letters};
 ghost use Rattle.coxeter.specs.Matrices.{matrix};
 ghost use Rattle.coxeter.specs.Pairs.{Path};
 ghost use Rattle.carriers.specs.Rows.{full_frame};
-ghost use Rattle.carriers.specs.Carriers.{Laws};
 ghost use Rattle.carriers.specs.Openings.{Opens, Checked};
 ghost use Rattle.carriers.specs.OneLines.{line_frame, line_at, line_beyond};
 
@@ -34,7 +33,6 @@ impl<'a> OneLine<'a> {
     pub fn make(group: Group, row: &'a mut [u8]) -> OneLine<'a>
         requires { Opens (rank_of (matrix group) + 1) (length row.old) (Path (matrix group)) }
         ensures frame { line_frame result ≡ full_frame (matrix group) }
-        ensures laws { Laws (line_frame result) (line_at result) }
         ensures home { line_at result [] }
         ensures reach { (w : Word) → Decides ((line_frame result).reach w) (Letters (matrix group) w) }
         ensures beyond { line_beyond result ≡ drop (rank_of (matrix group) + 1) row.old }

@@ -1,7 +1,7 @@
 use Rattle.std.proofs.Common.{◌≡◌, ℕ, ◌≤◌, length, drop, refl, subst, arith}
 use Rattle.coxeter.specs.Matrices.{matrix}
 use Rattle.coxeter.proofs.Matrices.{cut_rank}
-use Rattle.carriers.proofs.Standing.{home_shows, fitting_exactly, chamber_laws}
+use Rattle.carriers.proofs.Standing.{home_shows, fitting_exactly}
 use Rattle.carriers.proofs.chamber.Chamber.make.Goals as goal
 
 pub invariant_of-result : goal.invariant_of-result
@@ -18,8 +18,7 @@ returns g c =
     let w : c.args.group.rank ≤ length row = omega arith in
     record {
       frame = refl;
-      laws = chamber_laws g.N.Number.value c.args.group row w g.N.Number.fits g.met.N.Number.unit g.met.N.Number.within;
-      home = home_shows g.N.Number.value c.args.group row w (λ i h. c.set_start.ensures.ones i (omega arith));
+      home = home_shows g.N.Number.value c.args.group row (λ i h. c.set_start.ensures.ones i (omega arith));
       reach = λ v. fitting_exactly g.N.Number.fits (matrix c.args.group) v;
       beyond = subst (λ (n : ℕ). drop n row ≡ drop n c.args.row.now) c.rank-n.ensures.told c.set_start.ensures.beyond;
     }

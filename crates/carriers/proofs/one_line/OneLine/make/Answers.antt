@@ -1,8 +1,8 @@
 use Rattle.std.proofs.Common.{◌≡◌, ℕ, ◌+◌, drop, refl, subst, arith}
 use Rattle.coxeter.specs.Matrices.{matrix}
 use Rattle.coxeter.proofs.Matrices.{cut_rank}
-use Rattle.carriers.proofs.Standing.{letters_from, letters_tested}
-use Rattle.carriers.proofs.Exchanges.{line_laws, home_stands}
+use Rattle.carriers.specs.CarrierLaws.{letters_from, letters_tested}
+use Rattle.carriers.proofs.Exchanges.{home_stands}
 use Rattle.carriers.proofs.one_line.OneLine.make.Goals as goal
 
 pub invariant_of-result : goal.invariant_of-result
@@ -17,7 +17,6 @@ returns c =
     let e = c.rank-n.ensures.told in
     record {
       frame = refl;
-      laws = line_laws c.args.group row;
       home = home_stands (matrix c.args.group) row (λ i h. c.set_rising.ensures.entries i (omega arith));
       reach = λ v. (letters_from (matrix c.args.group) v, letters_tested (matrix c.args.group) v);
       beyond = subst (λ (n : ℕ). drop (n + 1) row ≡ drop (n + 1) c.args.row.now) e c.set_rising.ensures.beyond;

@@ -1,5 +1,5 @@
 use Rattle.std.proofs.Common.{◌≡◌, ℕ, ◌≤◌, length, drop, refl, subst, arith}
-use Rattle.carriers.proofs.Standing.{home_shows, chamber_laws}
+use Rattle.carriers.proofs.Standing.{home_shows}
 use Rattle.carriers.proofs.chamber.carrying.ChamberCarrier.home.Goals as goal
 
 pub returns : goal.returns
@@ -8,8 +8,9 @@ returns g c =
     let row = c.set_start.new.self.row.now in
     let w : x.group.rank ≤ length row = omega arith in
     record {
-      same = refl;
-      laws = chamber_laws g.N.Number.value x.group row w g.N.Number.fits g.met.N.Number.unit g.met.N.Number.within;
-      here = home_shows g.N.Number.value x.group row w (λ i h. c.set_start.ensures.ones i (omega arith));
+      home = record {
+        same = refl;
+        here = home_shows g.N.Number.value x.group row (λ i h. c.set_start.ensures.ones i (omega arith));
+      };
       beyond = subst (λ (n : ℕ). drop n row ≡ drop n x.lent.row.now) c.rank-n.ensures.told c.set_start.ensures.beyond;
     }

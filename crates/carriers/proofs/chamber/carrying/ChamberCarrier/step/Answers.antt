@@ -2,7 +2,8 @@ use Rattle.std.proofs.Common.{◌≡◌, ℕ, ◌-◌, ◌≤◌, [], ◌∷◌,
 use Rattle.coxeter.specs.Groups.{Letter}
 use Rattle.coxeter.specs.Matrices.{matrix}
 use Rattle.coxeter.proofs.Matrices.{cut_rank, cut_letter}
-use Rattle.carriers.proofs.Standing.{moved_shows, stuck_unfit, shows_fitting, chamber_laws}
+use Rattle.carriers.specs.CarrierLaws.{shows_fitting}
+use Rattle.carriers.proofs.Standing.{moved_shows, stuck_unfit}
 use Rattle.carriers.proofs.Chambers.{chamber_same, table_from}
 use Rattle.carriers.proofs.chamber.carrying.ChamberCarrier.step.Goals as goal
 
@@ -13,7 +14,6 @@ returns-then-s-eq0 g c =
     record {
       told = record {
         same = refl;
-        laws = chamber_laws g.N.Number.value x.group x.lent.row.now x.wide g.N.Number.fits g.met.N.Number.unit g.met.N.Number.within;
         took = (refl, λ k. let a = k.from_one in let b = k.to_rank in omega (arith, c.then-s-eq0.either));
       };
       beyond = refl;
@@ -31,7 +31,6 @@ returns-then-step_point g c =
     record {
       told = record {
         same = refl;
-        laws = chamber_laws g.N.Number.value x.group row w g.N.Number.fits g.met.N.Number.unit g.met.N.Number.within;
         took = (
           k,
           λ v h.
@@ -54,7 +53,6 @@ returns-else-step_point g c =
     record {
       told = record {
         same = refl;
-        laws = chamber_laws g.N.Number.value x.group row w g.N.Number.fits g.met.N.Number.unit g.met.N.Number.within;
         took = (
           chamber_same x c.step_point.new.self _ _ m.moved.0,
           k,

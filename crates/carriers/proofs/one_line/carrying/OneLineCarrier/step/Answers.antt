@@ -3,8 +3,9 @@ use Rattle.coxeter.specs.Groups.{Letter}
 use Rattle.coxeter.specs.Matrices.{matrix}
 use Rattle.coxeter.proofs.Matrices.{cut_rank, cut_letter}
 use Rattle.carriers.specs.Lines.{Stands}
-use Rattle.carriers.proofs.Standing.{letters_tested, letters_snoc}
-use Rattle.carriers.proofs.Exchanges.{line_laws, path_of, exchanged_stands, exchanged_beyond}
+use Rattle.carriers.specs.CarrierLaws.{letters_tested}
+use Rattle.carriers.proofs.Standing.{letters_snoc}
+use Rattle.carriers.proofs.Exchanges.{path_of, exchanged_stands, exchanged_beyond}
 use Rattle.carriers.proofs.one_line.carrying.OneLineCarrier.step.Goals as goal
 
 pub returns-then-s-eq0 : goal.returns-then-s-eq0
@@ -14,7 +15,6 @@ returns-then-s-eq0 c =
     record {
       told = record {
         same = refl;
-        laws = line_laws x.group x.lent.row.now;
         took = (refl, λ k. let a = k.from_one in let b = k.to_rank in omega (arith, c.then-s-eq0.either));
       };
       beyond = refl;
@@ -33,7 +33,6 @@ returns c =
     record {
       told = record {
         same = refl;
-        laws = line_laws x.group row;
         took = (
           k,
           λ w h. (
