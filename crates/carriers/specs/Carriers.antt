@@ -23,8 +23,12 @@ Took frame at x y s (Ok _) = Letter (frame x).group s × ((w : Word) → at x w 
 Took frame at x y s (Err NoLetter) = (y ≡ x) × ¬ Letter (frame x).group s
 Took frame at x y s (Err OutOfReach) = (y ≡ x) × Letter (frame x).group s × ((w : Word) → at x w → (frame x).reach (w ++ (s ∷ [])) ≡ false)
 
--- a step by s from x to y with the answer r: the frame stays, and the laws hold
+-- a step by s from x to y with the answer r: the frame stays
 pub record Stepped {X : Type 0} (frame : X → Frame) (at : X → Word → Type 0) (x y : X) (s : ℕ) (r : Result (Unit {0}) StepFault) : Type 0 where
   pub same : frame y ≡ frame x
-  pub laws : Laws (frame y) (at y)
   pub took : Took frame at x y s r
+
+-- the carrier x was brought home: it is y now, with the same group and reach, and stands at the identity
+pub record BroughtHome {X : Type 0} (frame : X → Frame) (at : X → Word → Type 0) (x y : X) : Type 0 where
+  pub same : frame y ≡ frame x
+  pub here : at y []

@@ -2,6 +2,7 @@
 use Rattle.std.specs.Prelude.{ℕ}
 use Rattle.refusals.specs.declared.layer.Layer.{Layer}
 use Rattle.refusals.specs.declared.layer.Layer.TheVariants.{Word, Sheet}
+use Rattle.refusals.specs.declared.report.Report.{Report}
 use Rattle.carriers.specs.declared.faults.StepFault.{StepFault}
 use Rattle.carriers.specs.declared.faults.StepFault.TheVariants.{Letter, Reach}
 use Rattle.carriers.specs.declared.faults.OpenFault.{OpenFault}
@@ -12,6 +13,10 @@ abbrev pub step_number : StepFault → ℕ
 step_number Letter = 7
 step_number Reach = 11
 
+-- what is reported of a refused step
+abbrev pub step_report : StepFault → Report
+step_report f = record { number = step_number f; place = 0; layer = Word }
+
 -- the number by which a refused opening is known
 abbrev pub open_number : OpenFault → ℕ
 open_number Short = 9
@@ -21,3 +26,7 @@ open_number Kind = 6
 abbrev pub open_layer : OpenFault → Layer
 open_layer Short = Word
 open_layer Kind = Sheet
+
+-- what is reported of a refused opening
+abbrev pub open_report : OpenFault → Report
+open_report f = record { number = open_number f; place = 0; layer = open_layer f }

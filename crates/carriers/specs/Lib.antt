@@ -8,3 +8,4 @@ pub mod Openings
 pub mod Lines
 pub mod Chambers
 pub mod OneLines
+pub mod CarrierLaws

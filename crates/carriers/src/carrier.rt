@@ -1,11 +1,11 @@
 //! The interface of every carrier.
 
-ghost use Rattle.std.specs.Prelude.{◌≡◌, false, [], Decides};
+ghost use Rattle.std.specs.Prelude.{◌≡◌, false, Decides};
 ghost use Rattle.coxeter.specs.Groups.{Letter, answered_exponent, rank as rank_of};
 ghost use Rattle.coxeter.specs.Moves.{Word};
 ghost use Rattle.coxeter.specs.Lengths.{Descends};
 ghost use Rattle.carriers.specs.Frames.{Frame};
-ghost use Rattle.carriers.specs.Carriers.{Laws, Stepped};
+ghost use Rattle.carriers.specs.Carriers.{Laws, BroughtHome, Stepped};
 
 use crate::faults::StepFault;
 
@@ -23,8 +23,7 @@ pub trait Carrier {
 
     /// How many letters the group has.
     fn rank(&self) -> u8
-        ensures told { result ≡ rank_of (frame self.now).group }
-        ensures laws { Laws (frame self.now) (at self.now) };
+        ensures { result ≡ rank_of (frame self.now).group };
 
     /// The exponent of s and t: 0 for inf, 255 where one of them is no letter.
     fn exponent(&self, s: u8, t: u8) -> u8
@@ -37,11 +36,12 @@ pub trait Carrier {
 
     /// Makes the element the identity.
     fn home(&mut self)
-        ensures same { frame self.new ≡ frame self.old }
-        ensures laws { Laws (frame self.new) (at self.new) }
-        ensures here { at self.new [] };
+        ensures { BroughtHome frame at self.old self.new };
 
     /// Makes the element the element times s; a refusal changes nothing.
     fn step(&mut self, s: u8) -> Result<(), StepFault>
         ensures { Stepped frame at self.old self.new s result };
+
+    /// The laws hold of every carrier.
+    ghost laws: { (c : Self) → Laws (frame c) (at c) };
 }

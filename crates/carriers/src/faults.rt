@@ -1,11 +1,11 @@
 //! Why a carrier refuses.
 
 ghost use Rattle.std.specs.Prelude.{◌≡◌};
-ghost use Rattle.refusals.specs.declared.layer.Layer.{Layer};
-ghost use Rattle.carriers.specs.Faults.{step_number, open_number, open_layer};
+ghost use Rattle.carriers.specs.Faults.{step_report, open_report};
 
 use refusals::layer::Layer;
 use refusals::refusal::Refusal;
+use refusals::report::Report;
 
 /// Why a step is refused.
 #[derive(Clone, Copy, Debug, PartialEq)]
@@ -17,27 +17,18 @@ pub enum StepFault {
 }
 
 impl Refusal for StepFault {
-    ghost numbered = { step_number };
+    ghost reported = { step_report };
 
-    ghost placed = { λ _. 0 };
-
-    ghost arisen = { λ _. Layer.Word };
-
-    fn number(&self) -> u8 {
-        match self {
-            StepFault::Letter => 7,
-            StepFault::Reach => 11,
+    fn report(&self) -> Report {
+        let (number, place) = match self {
+            StepFault::Letter => (7, 0),
+            StepFault::Reach => (11, 0),
+        };
+        Report {
+            number,
+            place,
+            layer: Layer::Word,
         }
-    }
-
-    fn place(&self) -> usize {
-        match self {
-            StepFault::Letter | StepFault::Reach => 0,
-        }
-    }
-
-    fn layer(&self) -> Layer {
-        Layer::Word
     }
 }
 
@@ -51,29 +42,17 @@ pub enum OpenFault {
 }
 
 impl Refusal for OpenFault {
-    ghost numbered = { open_number };
+    ghost reported = { open_report };
 
-    ghost placed = { λ _. 0 };
-
-    ghost arisen = { open_layer };
-
-    fn number(&self) -> u8 {
-        match self {
-            OpenFault::Short => 9,
-            OpenFault::Kind => 6,
-        }
-    }
-
-    fn place(&self) -> usize {
-        match self {
-            OpenFault::Short | OpenFault::Kind => 0,
-        }
-    }
-
-    fn layer(&self) -> Layer {
-        match self {
-            OpenFault::Short => Layer::Word,
-            OpenFault::Kind => Layer::Sheet,
+    fn report(&self) -> Report {
+        let (number, place, layer) = match self {
+            OpenFault::Short => (9, 0, Layer::Word),
+            OpenFault::Kind => (6, 0, Layer::Sheet),
+        };
+        Report {
+            number,
+            place,
+            layer,
         }
     }
 }

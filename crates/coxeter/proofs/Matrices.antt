@@ -45,14 +45,10 @@ pub front_by_places : (new : List ℕ) (n : ℕ) → n ≤ length new → map (�
 front_by_places new n h = sym (fill_by_all (λ j. get_or new j 0) (take n new) n 0 (length-take-le n new h) (λ k i. get_or-take n new k 0 i))
 
 -- ---- what the exponent's answer is
-pub answered_letters : (n : ℕ) (rows : List (List ℕ)) (s t : ℕ) → 1 ≤ s → s ≤ n → 1 ≤ t → t ≤ n → answered_exponent (cut n rows) s t ≡ place rows (s - 1) (t - 1)
-answered_letters n rows s t a b d e =
-    let l = cut_rank n rows in
-    let q = cut_exponent n rows s t (cut_letter n rows s a b) (cut_letter n rows t d e) in
+pub answered_letters : (n : ℕ) (rows : List (List ℕ)) (s t : ℕ) → Letter (cut n rows) s → Letter (cut n rows) t → answered_exponent (cut n rows) s t ≡ place rows (s - 1) (t - 1)
+answered_letters n rows s t l k =
+    let q = cut_exponent n rows s t l k in
     grind (arith, nat_tests)
-
-pub answered_others : (n : ℕ) (rows : List (List ℕ)) (s t : ℕ) → (1 ≤ s → s ≤ n → 1 ≤ t → t ≤ n → ⊥) → answered_exponent (cut n rows) s t ≡ 255
-answered_others n rows s t a = let l = cut_rank n rows in grind (arith, nat_tests)
 
 -- ---- there is one proof at most that a matrix is lawful
 apart_prop : (e : ℕ) (p q : (e ≡ 0) ⊎ ((2 ≤ e) × (e ≤ 6))) → p ≡ q

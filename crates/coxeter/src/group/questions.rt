@@ -1,7 +1,7 @@
 //! What a group answers of its matrix.
 
 ghost use Rattle.std.specs.Prelude.{◌≡◌, length, Decides};
-ghost use Rattle.coxeter.specs.Groups.{answered_exponent};
+ghost use Rattle.coxeter.specs.Groups.{Letter, answered_exponent};
 ghost use Rattle.coxeter.specs.Matrices.{matrix};
 ghost use Rattle.coxeter.specs.Pairs.{AllFinite, WithoutFive, Path};
 
@@ -17,12 +17,18 @@ impl Group {
         self.rank
     }
 
+    /// Is s a letter of the group, 1 to its rank?
+    pub fn has_letter(&self, s: u8) -> bool
+        ensures { Decides result (Letter (matrix self.now) s) }
+    {
+        (1..=self.rank).contains(&s)
+    }
+
     /// The exponent of s and t: 0 for inf, 255 where s or t is no letter.
     pub fn exponent(&self, s: u8, t: u8) -> u8
         ensures { result ≡ answered_exponent (matrix self.now) s t }
     {
-        let n = self.rank;
-        if s == 0 || s > n || t == 0 || t > n {
+        if !self.has_letter(s) || !self.has_letter(t) {
             return 255;
         }
         let row = &self.rows[s as usize - 1];

@@ -1,24 +1,14 @@
-use Rattle.std.proofs.Common.{◌≡◌, ℕ, ◌+◌, drop, refl, subst, arith}
+use Rattle.std.proofs.Common.{Decides, sym, subst, arith}
+use Rattle.coxeter.specs.Moves.{Letters}
 use Rattle.coxeter.specs.Matrices.{matrix}
-use Rattle.coxeter.proofs.Matrices.{cut_rank}
-use Rattle.carriers.proofs.Standing.{letters_from, letters_tested}
-use Rattle.carriers.proofs.Exchanges.{line_laws, home_stands}
+use Rattle.carriers.specs.Frames.{Frame}
+use Rattle.carriers.specs.CarrierLaws.{matrix_rank, letters_from, letters_tested}
 use Rattle.carriers.proofs.one_line.OneLine.make.Goals as goal
 
-pub invariant_of-result : goal.invariant_of-result
-invariant_of-result c =
-    let r = cut_rank c.args.group.rank c.args.group.rows in
-    let w = c.requires.wide in
-    record { wide = omega arith; path = ∣ c.requires.kind ∣₁ }
+pub invariant_of-line : goal.invariant_of-line
+invariant_of-line c = let n = matrix_rank c.args.group in let w = c.requires.wide in record { wide = omega arith; path = ∣ c.requires.kind ∣₁ }
 
-pub returns : goal.returns
-returns c =
-    let row = c.set_rising.new.row in
-    let e = c.rank-n.ensures.told in
-    record {
-      frame = refl;
-      laws = line_laws c.args.group row;
-      home = home_stands (matrix c.args.group) row (λ i h. c.set_rising.ensures.entries i (omega arith));
-      reach = λ v. (letters_from (matrix c.args.group) v, letters_tested (matrix c.args.group) v);
-      beyond = subst (λ (n : ℕ). drop (n + 1) row ≡ drop (n + 1) c.args.row.now) e c.set_rising.ensures.beyond;
-    }
+pub returns-clause-reach : goal.returns-clause-reach
+returns-clause-reach c w =
+    let m = matrix c.args.group in
+    subst (λ (f : Frame). Decides (f.reach w) (Letters m w)) (sym c.home.ensures.home.same) (letters_from m w, letters_tested m w)
