@@ -1,16 +1,8 @@
 -- The exponent that some bytes begin with, or how far they begin one.
-use Rattle.std.proofs.Common.{◌≡◌, ℕ, zero, suc, ◌+◌, ◌-◌, ◌<◌, ◌≤◌, ◌≢◌, List, [], ◌∷◌, ◌++◌, length, get_or, take, drop, codes, sym, refl, ap, ◌∙◌, ⊎_elim, arith}
-use Rattle.std.proofs.lemmas.List.{take_rest, get_or-take, get_or_append_left, length-take-le, get_or_past}
+use Rattle.std.proofs.Common.{◌≡◌, ℕ, zero, suc, ◌<◌, ◌≤◌, ◌≢◌, List, [], ◌∷◌, ◌++◌, length, get_or, take, sym, ap, ◌∙◌, ⊎_elim, arith}
+use Rattle.std.proofs.lemmas.List.{get_or-take, get_or_append_left, length-take-le, get_or_past}
 use Rattle.std.proofs.lemmas.Bool.{cases_lt}
-use Rattle.sheets.specs.Rows.{exponent_text, Opens, Halts}
-
--- a finite exponent is written by its digit
-finite_text : (e : ℕ) → 1 ≤ e → exponent_text e ≡ (48 + e) ∷ []
-finite_text zero h = absurd (omega arith)
-finite_text (suc n) h = refl
-
-digit_text : (x : ℕ) → 49 ≤ x → exponent_text (x - 48) ≡ x ∷ []
-digit_text x h = let back : 48 + (x - 48) ≡ x = omega arith in finite_text (x - 48) (omega arith) ∙ ap (λ y. y ∷ []) back
+use Rattle.sheets.specs.Rows.{exponent_text, Halts}
 
 -- what a longer front reads
 pub front : (s u w : List ℕ) (j i : ℕ) → i < j → j ≤ length s → take j s ++ u ≡ w → get_or s i 0 ≡ get_or w i 0
@@ -25,17 +17,6 @@ halts bs k le good never = record {
   bad = λ j lt le' e ve u v eq. never e ve v (λ i h. front bs u (exponent_text e ++ v) j i (omega arith) le' eq);
   wrong = λ e ve v eq. never e ve v (λ i h. ap (λ l. get_or l i 0) eq);
 }
-
-pub opens_inf : (s : List ℕ) → 3 ≤ length s → get_or s 0 0 ≡ 105 → get_or s 1 0 ≡ 110 → get_or s 2 0 ≡ 102 → Opens s 0 (take (length s - 3) (drop 3 s))
-opens_inf [] h a b c = absurd (omega arith)
-opens_inf (x ∷ []) h a b c = absurd (omega arith)
-opens_inf (x ∷ y ∷ []) h a b c = absurd (omega arith)
-opens_inf (x ∷ y ∷ z ∷ t) h a b c = rw (take_rest (x ∷ y ∷ z ∷ t) 3) (record { whole = λ i. a i ∷ b i ∷ c i ∷ t; small = omega arith })
-
-pub opens_digit : (s : List ℕ) → 1 ≤ length s → 49 ≤ get_or s 0 0 → get_or s 0 0 ≤ 54 → Opens s (get_or s 0 0 - 48) (take (length s - 1) (drop 1 s))
-opens_digit [] h a b = absurd (omega arith)
-opens_digit (x ∷ t) h a b =
-    rw (take_rest (x ∷ t) 1) (record { whole = ap (λ l. l ++ t) (sym (digit_text x a)); small = omega arith })
 
 pub halts_in : (s : List ℕ) → 2 ≤ length s → get_or s 0 0 ≡ 105 → get_or s 1 0 ≡ 110 → (2 < length s → get_or s 2 0 ≢ 102) → Halts s 2
 halts_in [] h a b c = absurd (omega arith)
@@ -53,10 +34,3 @@ halts_i (x ∷ t) h a c = halts (x ∷ t) 1 h (0, 110 ∷ 102 ∷ [], omega arit
     never : (e : ℕ) → e ≤ 6 → (v : List ℕ) → ((i : ℕ) → i ≤ 1 → get_or (x ∷ t) i 0 ≡ get_or (exponent_text e ++ v) i 0) → ⊥
     never (suc d) ve v f = omega (arith, f 0 (omega arith), a)
     never zero ve v f = ⊎_elim (λ l. c l (f 1 (omega arith))) (λ g. omega (arith, f 1 (omega arith), get_or_past (x ∷ t) 1 0 g)) (cases_lt 1 (length (x ∷ t)))
-
-pub halts_none : (s : List ℕ) → (0 < length s → get_or s 0 0 ≢ 105) → (0 < length s → 49 ≤ get_or s 0 0 → get_or s 0 0 ≤ 54 → ⊥) → Halts s 0
-halts_none s a b = halts s 0 (omega arith) (0, codes "inf", omega arith, refl) never
-  where
-    never : (e : ℕ) → e ≤ 6 → (v : List ℕ) → ((i : ℕ) → i ≤ 0 → get_or s i 0 ≡ get_or (exponent_text e ++ v) i 0) → ⊥
-    never (suc d) ve v f = ⊎_elim (λ l. b l (omega (arith, f 0 (omega arith))) (omega (arith, f 0 (omega arith)))) (λ g. omega (arith, f 0 (omega arith), get_or_past s 0 0 g)) (cases_lt 0 (length s))
-    never zero ve v f = ⊎_elim (λ l. a l (f 0 (omega arith))) (λ g. omega (arith, f 0 (omega arith), get_or_past s 0 0 g)) (cases_lt 0 (length s))

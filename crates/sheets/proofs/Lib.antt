@@ -11,5 +11,4 @@ pub mod OneAnswer
 pub mod TableRows
 pub mod SheetTexts
 pub mod StageSteps
-pub mod Exits
 pub mod ReadingSteps

@@ -1,7 +1,6 @@
 -- A line has one answer at a stage: it leads on in one way, or is refused for one fault.
 use Rattle.std.proofs.Common.{◌≡◌, ℕ, ◌+◌, List, [], ◌∷◌, ◌++◌, length, codes, sym, refl, ap, ◌∙◌, subst, append-nil, arith, length-append}
 use Rattle.coxeter.specs.Groups.{Matrix}
-use Rattle.coxeter.specs.Matrices.{matrix}
 use Rattle.lines.specs.Cuts.{Cut}
 use Rattle.lines.specs.declared.faults.LineFault.TheVariants.{Unfinished, Unexpected}
 use Rattle.lines.proofs.Cutting.{free_none, not_free, same_cut}
@@ -10,12 +9,11 @@ use Rattle.sheets.specs.Fitting.{Misfit}
 use Rattle.sheets.specs.Kinds.{kind_name, Carries}
 use Rattle.sheets.specs.Texts.{keyed, ended}
 use Rattle.sheets.specs.Stages.{Stage, rank_due, row_due, kind_due, read_text, key_due, Reached, Advances, Refuses}
-use Rattle.sheets.specs.Drafts.{kind_stage}
-use Rattle.sheets.specs.Theorems.{LinesAnsweredOnce, KindsAnsweredOnce}
+use Rattle.sheets.specs.Theorems.{LinesAnsweredOnce}
 use Rattle.sheets.specs.declared.kinds.Kind.{Kind}
 use Rattle.sheets.specs.declared.faults.SheetFault.{SheetFault}
 use Rattle.sheets.specs.declared.faults.SheetFault.TheVariants as fault
-use Rattle.sheets.proofs.Spelling.{rows_spell_once_lem, one_stop, one_misfit, one_value, one_name}
+use Rattle.sheets.proofs.Spelling.{rows_spell_once_lem, one_stop, one_misfit, one_value}
 use Rattle.sheets.proofs.LineCounts.{one_line}
 use Rattle.sheets.proofs.StageTexts.{Right, Met, one, nearer, farther, meet}
 
@@ -151,11 +149,4 @@ lines_answered_once_lem g r line = record {
   onward = λ h k a b. one_stage h k a.reached b.reached (a.text ∙ sym b.text);
   refusal = λ e f a b. one_fault g line e f a b;
   either = λ h f a b. right_line g line f (advance_right g h line r a) b;
-}
-
-pub kinds_answered_once_lem : KindsAnsweredOnce
-kinds_answered_once_lem d line = record {
-  group = λ b c p q. p.group ∙ sym q.group;
-  kind = λ b c p q. one_name b.sheet.kind c.sheet.kind (one_value (codes "kind") (kind_name b.sheet.kind) (kind_name c.sheet.kind) (sym p.text ∙ q.text));
-  either = λ c f p b. kind_line (kind_stage d) (matrix d.group) c.sheet.kind line f refl p.text p.carried b;
 }

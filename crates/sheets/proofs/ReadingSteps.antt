@@ -15,7 +15,6 @@ use Rattle.sheets.specs.Reading.{Leads, RefusedFrom, unfinished, refused, NoShee
 use Rattle.sheets.specs.declared.drafts.RowsDraft.{RowsDraft}
 use Rattle.sheets.specs.declared.drafts.KindDraft.{KindDraft}
 use Rattle.sheets.specs.declared.drafts.CheckedDraft.{CheckedDraft}
-use Rattle.sheets.specs.declared.drafts.Sheet.{Sheet}
 use Rattle.sheets.specs.declared.faults.SheetFault.{SheetFault}
 use Rattle.sheets.proofs.TableRows.{filled_of}
 use Rattle.sheets.proofs.StageSteps.{drafted_rows}

@@ -1,8 +1,9 @@
 -- A row is its first exponent and what follows; what follows is a space and a row.
-use Rattle.std.proofs.Common.{◌≡◌, ℕ, zero, suc, ◌+◌, ◌-◌, ◌<◌, ◌≤◌, ◌≢◌, List, [], ◌∷◌, ◌++◌, length, get_or, take, drop, set, replicate, sym, refl, ap, ◌∙◌, subst, append_assoc, append-nil, zero-add, arith, length-append, length-drop, length-set}
+use Rattle.std.proofs.Common.{◌≡◌, ℕ, zero, suc, ◌+◌, ◌-◌, ◌<◌, ◌≤◌, ◌≢◌, List, [], ◌∷◌, ◌++◌, length, get_or, take, drop, set, replicate, sym, refl, ap, ◌∙◌, subst, append_assoc, append-nil, arith, length-append, length-drop, length-set}
 use mathlib.Core.List.{head-eq_of_cons-eq, tail-eq_of_cons-eq}
 use borrow.Rule.Slice.PartMut.{put_mid}
-use Rattle.std.proofs.lemmas.List.{take_rest, drop_all}
+use Rattle.std.proofs.lemmas.List.{take_rest, drop_all, length-replicate}
+use Rattle.std.proofs.Math.Seq.{take-append-add}
 use Rattle.sheets.specs.Rows.{exponent_text, after_text, row_text, Writable, Opens, Halts, Spells, Begins, Stops}
 use Rattle.sheets.proofs.FirstExponent.{front}
 
@@ -15,25 +16,13 @@ one_exponent (suc d) zero ve vf a b h = let same : 48 + suc d ≡ 105 = head-eq_
 one_exponent zero (suc g) ve vf a b h = let same : 105 ≡ 48 + suc g = head-eq_of_cons-eq h in absurd (omega arith)
 one_exponent zero zero ve vf a b h = (refl, cc)
 
-take_past : (w rest : List ℕ) (k : ℕ) → take (length w + k) (w ++ rest) ≡ w ++ take k rest
-take_past [] rest k = rw zero-add
-take_past (x ∷ w) rest k =
-    let e : suc (length w) + k ≡ suc (length w + k) = omega arith in
-    rw e (ap (λ l. x ∷ l) (take_past w rest k))
-
 -- exponents to go on with
-spare : ℕ → List ℕ
+abbrev spare : ℕ → List ℕ
 spare n = replicate n 0
 
 spare_writable : (n : ℕ) → Writable (spare n)
-unfolding spare
 spare_writable zero = tt
 spare_writable (suc n) = (omega arith, spare_writable n)
-
-spare_length : (n : ℕ) → length (spare n) ≡ n
-unfolding spare
-spare_length zero = refl
-spare_length (suc n) = ap suc (spare_length n)
 
 pub put_front : (xs ys : List ℕ) (e : ℕ) → 0 < length xs → put_mid 1 (length (set xs 0 e) - 1) (set xs 0 e) ys ≡ e ∷ ys
 put_front [] ys e h = absurd (omega arith)
@@ -49,7 +38,7 @@ row_halt (suc m) s k h t = record {
   good = (
     t.good.0 ∷ spare m,
     t.good.1 ++ after_text (spare m),
-    ap suc (spare_length m),
+    ap suc (length-replicate m 0),
     record {
       spelled = sym (append_assoc (take k s) t.good.1 (after_text (spare m))) ∙ ap (λ l. l ++ after_text (spare m)) t.good.3;
       writable = (t.good.2, spare_writable m);
@@ -75,7 +64,7 @@ module _ (m : ℕ) (rest : List ℕ) (k : ℕ) (e : ℕ) (ve : e ≤ 6) (t : Sto
     t.good.1,
     ap suc t.good.2,
     record {
-      spelled = ap (λ l. l ++ t.good.1) (take_past (exponent_text e) rest k) ∙ append_assoc (exponent_text e) (take k rest) t.good.1 ∙ ap (λ l. exponent_text e ++ l) t.good.3.spelled;
+      spelled = ap (λ l. l ++ t.good.1) (take-append-add (exponent_text e) rest k) ∙ append_assoc (exponent_text e) (take k rest) t.good.1 ∙ ap (λ l. exponent_text e ++ l) t.good.3.spelled;
       writable = (ve, t.good.3.writable);
     },
   )
@@ -86,7 +75,7 @@ module _ (m : ℕ) (rest : List ℕ) (k : ℕ) (e : ℕ) (ve : e ≤ 6) (t : Sto
       let i : ℕ = j - length (exponent_text e) in
       let back : j ≡ length (exponent_text e) + i = omega arith in
       let whole : exponent_text e ++ (take i rest ++ u) ≡ exponent_text f ++ after_text es =
-      sym (append_assoc (exponent_text e) (take i rest) u) ∙ ap (λ l. l ++ u) (sym (take_past (exponent_text e) rest i) ∙ ap (λ n. take n (exponent_text e ++ rest)) (sym back)) ∙ sp.spelled in
+      sym (append_assoc (exponent_text e) (take i rest) u) ∙ ap (λ l. l ++ u) (sym (take-append-add (exponent_text e) rest i) ∙ ap (λ n. take n (exponent_text e ++ rest)) (sym back)) ∙ sp.spelled in
       let same = one_exponent e f ve sp.writable.0 (take i rest ++ u) (after_text es) whole in
       t.bad i (omega arith) (omega (arith, length-append (exponent_text e) rest)) (es, u, omega arith, record { spelled = same.1; writable = sp.writable.1 })
 
@@ -137,7 +126,7 @@ tail_more (x ∷ s) h = record {
 tail_space : (m : ℕ) (s : List ℕ) → 0 < m → (0 < length s → get_or s 0 0 ≢ 32) → Stops after_text m s 0
 tail_space m s h gap = record {
   within = omega arith;
-  good = (spare m, after_text (spare m), spare_length m, record { spelled = refl; writable = spare_writable m });
+  good = (spare m, after_text (spare m), length-replicate m 0, record { spelled = refl; writable = spare_writable m });
   bad = λ j lt le b. bad j lt le b.0 b.1 b.2 b.3;
   wrong = wrong;
 }

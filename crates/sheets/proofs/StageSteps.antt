@@ -1,12 +1,12 @@
 -- From one stage of a sheet to the next.
-use Rattle.std.proofs.Common.{◌≡◌, ℕ, ◌+◌, ◌-◌, ◌<◌, ◌≤◌, List, [], ◌∷◌, ◌++◌, length, get_or, take, set, sym, refl, ap, ◌∙◌, subst, arith, length-append}
+use Rattle.std.proofs.Common.{◌≡◌, ℕ, ◌+◌, ◌<◌, ◌≤◌, List, [], ◌∷◌, ◌++◌, length, take, set, sym, refl, ap, ◌∙◌, subst, arith, length-append}
 use Rattle.coxeter.specs.Groups.{Matrix}
 use Rattle.coxeter.specs.Tables.{cut}
 use Rattle.lines.specs.Lines.{row_key_bytes}
 use Rattle.sheets.specs.Rows.{row_text, Spells, Stops}
 use Rattle.sheets.specs.Fitting.{Misfit}
 use Rattle.sheets.specs.Filling.{part, Filled}
-use Rattle.sheets.specs.Texts.{keyed, ended, digit, draft_text}
+use Rattle.sheets.specs.Texts.{keyed, ended, draft_text}
 use Rattle.sheets.specs.Stages.{Stage, row_due, kind_due, Advances, Drafted, WrongRow, WrongEntry, key_due}
 use Rattle.sheets.specs.Drafts.{FitsNext}
 use Rattle.sheets.specs.declared.drafts.RowsDraft.{RowsDraft}
@@ -53,13 +53,6 @@ module _ (d : RowsDraft) (row : List ℕ) (long : d.rank ≤ length row) (inside
   next_kind m full is =
       subst (λ rows. Drafted d.rank rows (kind_due m)) next_part
       (drafted_kind d.rank (d.done + 1) (set d.rows d.done row) m d.some d.few full is next_filled)
-
--- ---- the first line
--- the value of the rank's line, where it is one digit
-pub rank_digit : (v : List ℕ) → length v ≡ 1 → 49 ≤ get_or v 0 0 → v ≡ digit (get_or v 0 0 - 48)
-rank_digit [] l h = absurd (omega arith)
-rank_digit (x ∷ []) l h = let back : x ≡ 48 + (x - 48) = omega arith in λ i. back i ∷ []
-rank_digit (x ∷ y ∷ v) l h = absurd (omega arith)
 
 -- ---- a row's line
 module _ (n k : ℕ) (rows : List (List ℕ)) (value : List ℕ) where

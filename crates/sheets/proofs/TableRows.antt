@@ -29,9 +29,6 @@ filled_prop n k rows p q i = record {
 pub filled_of : (n k : ℕ) (rows : List (List ℕ)) → ∥ Filled n k rows ∥₁ → Filled n k rows
 filled_of n k rows h = ∥∥₁_elim h (filled_prop n k rows) (λ x. x)
 
-pub filled_none : (n : ℕ) (rows : List (List ℕ)) → Filled n 0 rows
-filled_none n rows = record { small = λ r c h. absurd (omega arith); fits = λ r c h. absurd (omega arith) }
-
 -- ---- the rows that are there, as a list
 pub part_length : (n k : ℕ) (rows : List (List ℕ)) → length (part n k rows) ≡ k
 part_length n k rows = length-map-range_with_len (λ i. map (λ j. place rows i j) (range_with_len 0 n)) 0 k

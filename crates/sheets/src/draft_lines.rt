@@ -25,16 +25,6 @@ fn rank_of(value: &[u8]) -> Option<u8>
     }
 }
 
-// The row of `rank` exponents that the value spells, and more entries up to eight.
-fn row_of(value: &[u8], rank: u8) -> Result<[u8; 8], SheetFault>
-    requires { (1 ≤ rank) × (rank ≤ 8) }
-    ensures { MatchResult result (λ new. Spells row_text value.now (take rank new)) (λ e. (k : ℕ) × (e ≡ SheetFault.Row (5 + k)) × Stops row_text rank value.now k) }
-{
-    let mut new = [0; 8];
-    row(value, &mut new[..rank as usize]).map_err(|wrong| SheetFault::Row(5 + wrong.at))?;
-    Ok(new)
-}
-
 impl RowsDraft {
     /// The draft of the line `rank=N`.
     pub fn open(line: &[u8]) -> Result<RowsDraft, SheetFault>
@@ -65,15 +55,24 @@ impl RowsDraft {
     fn add(self, value: &[u8]) -> Result<Draft, SheetFault>
         ensures { MatchResult result (λ d. Advances (rows_stage self) (keyed (row_key_bytes (self.done + 1)) value.now) (draft_stage d)) (Refuses (rows_stage self) (keyed (row_key_bytes (self.done + 1)) value.now)) }
     {
-        let row = row_of(value, self.rank)?;
+        let row = self.next_row(value)?;
         match self.misfit(&row[..self.rank as usize]) {
             Some(k) => Err(SheetFault::Entry(5 + k)),
-            None => Ok(self.with(row)),
+            None => Ok(self.with_row(row)),
         }
     }
 
+    // The row of `rank` exponents that the value spells, and more entries up to eight.
+    fn next_row(&self, value: &[u8]) -> Result<[u8; 8], SheetFault>
+        ensures { MatchResult result (λ new. Spells row_text value.now (take self.now.rank new)) (λ e. (k : ℕ) × (e ≡ SheetFault.Row (5 + k)) × Stops row_text self.now.rank value.now k) }
+    {
+        let mut new = [0; 8];
+        row(value, &mut new[..self.rank as usize]).map_err(|wrong| SheetFault::Row(5 + wrong.at))?;
+        Ok(new)
+    }
+
     // The draft with this row, whose exponents may stand there.
-    fn with(self, row: [u8; 8]) -> Draft
+    fn with_row(self, row: [u8; 8]) -> Draft
         requires { FitsNext self (take self.rank row) }
         ensures { Drafted self.rank (part self.rank self.done self.rows ++ take self.rank row ∷ []) (draft_stage result) }
     {

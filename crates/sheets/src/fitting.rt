@@ -4,6 +4,7 @@ ghost use Rattle.sheets.specs.Rows.{exponent_text};
 ghost use Rattle.sheets.specs.Fitting.{Fits, AllExponentsFit, Misfit};
 
 use crate::drafts::RowsDraft;
+use std::cmp::Ordering;
 
 // How many bytes an exponent is written in.
 fn width(e: u8) -> usize
@@ -26,12 +27,10 @@ impl RowsDraft {
         ensures { Decides result (Fits self.now.rows self.now.done c e) }
     {
         let r = self.done as usize;
-        if c == r {
-            e == 1
-        } else if e == 1 {
-            false
-        } else {
-            c > r || e == self.rows[c][r]
+        match c.cmp(&r) {
+            Ordering::Less => e != 1 && e == self.rows[c][r],
+            Ordering::Equal => e == 1,
+            Ordering::Greater => e != 1,
         }
     }
 

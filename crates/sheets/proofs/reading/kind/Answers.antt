@@ -1,13 +1,13 @@
+use Rattle.std.proofs.Common.{rules}
 use Rattle.sheets.specs.Drafts.{kind_stage, Checked}
-use Rattle.sheets.specs.Reading.{RefusedFrom, KindRead}
-use Rattle.sheets.proofs.Exits.{exit}
+use Rattle.sheets.specs.Reading.{KindRead}
 use Rattle.sheets.proofs.ReadingSteps.{leads_nowhere, refused_unfinished, line_answer}
 use Rattle.sheets.proofs.reading.kind.Goals as goal
 
 pub returns-in_err-line : goal.returns-in_err-line
 returns-in_err-line c =
-    exit _ (RefusedFrom (kind_stage c.args.draft) c.args.reader.now c.next_line.new.reader) c.in_err-line.field-0.0 c.from_residual.result c.from_residual.ensures.1
-    (refused_unfinished (leads_nowhere (kind_stage c.args.draft) c.args.reader.now c.requires) c.in_err-line.ensures.line)
+    let refused = refused_unfinished (leads_nowhere (kind_stage c.args.draft) c.args.reader.now c.requires) c.in_err-line.ensures.line in
+    search (rules, refused)
 
 pub returns : goal.returns
 returns c =

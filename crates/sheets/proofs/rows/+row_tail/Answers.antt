@@ -1,4 +1,4 @@
-use Rattle.std.proofs.Common.{◌≡◌, ◌≢◌, get_or, ◌+◌, ◌-◌, ◌<◌, ◌∷◌, length, MatchResult, rules, arith, subst}
+use Rattle.std.proofs.Common.{◌≡◌, get_or, ◌+◌, ◌-◌, ◌<◌, ◌∷◌, length, MatchResult, rules, arith, subst}
 use Rattle.std.proofs.lemmas.Result.{MatchResult-weaker}
 use Rattle.sheets.specs.Rows.{row_text, after_text, Spells, Stops}
 use Rattle.sheets.proofs.RowReading.{put_front, part_length, row_ok, row_halt, row_step, tail_stop, tail_ok, tail_err}

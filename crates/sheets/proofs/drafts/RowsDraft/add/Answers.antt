@@ -1,9 +1,5 @@
-use Rattle.std.proofs.Common.{◌≡◌, ◌+◌, ◌≤◌, length, take, subst, arith, rules, length-take}
-use Rattle.lines.specs.Lines.{row_key_bytes}
-use Rattle.sheets.specs.Texts.{keyed}
+use Rattle.std.proofs.Common.{◌≡◌, ◌≤◌, length, take, subst, arith, rules, length-take}
 use Rattle.sheets.specs.Fitting.{AllExponentsFit}
-use Rattle.sheets.specs.Stages.{Refuses}
-use Rattle.sheets.specs.Drafts.{rows_stage}
 use Rattle.sheets.proofs.Columns.{place_short}
 use Rattle.sheets.proofs.StageSteps.{row_added, row_unspelled, row_misfit}
 use Rattle.sheets.proofs.drafts.RowsDraft.add.Goals as goal
@@ -24,12 +20,12 @@ returns-in-Some c =
     let long : c.args.self.rank ≤ length c.in_ok-row.row = omega arith in
     row_misfit _ _ _ _ _ _ c.args.self.left (simp length-take (omega arith)) c.in_ok-row.ensures c.in-Some.ensures
 
-pub with-requires : goal.with-requires
-with-requires c =
+pub with_row-requires : goal.with_row-requires
+with_row-requires c =
     let d = c.args.self in
     let row = take d.rank c.in_ok-row.row in
     let wide : length row ≡ d.rank = simp length-take (omega arith) in
     record { writable = c.in_ok-row.ensures.writable; fit = subst (AllExponentsFit d.rows d.done row) wide c.in-None.ensures }
 
 pub returns-in-None : goal.returns-in-None
-returns-in-None c = row_added _ _ _ _ _ _ c.in_ok-row.ensures.spelled c.with.ensures
+returns-in-None c = row_added _ _ _ _ _ _ c.in_ok-row.ensures.spelled c.with_row.ensures

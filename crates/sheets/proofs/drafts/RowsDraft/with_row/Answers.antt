@@ -1,8 +1,8 @@
-use Rattle.std.proofs.Common.{◌≡◌, ◌+◌, ◌<◌, ◌≤◌, length, set, subst, arith}
+use Rattle.std.proofs.Common.{◌≡◌, ◌+◌, set, subst, arith}
 use Rattle.sheets.specs.Filling.{Filled}
 use Rattle.sheets.proofs.TableRows.{filled_lawful}
 use Rattle.sheets.proofs.StageSteps.{next_filled, next_rows, next_kind}
-use Rattle.sheets.proofs.drafts.RowsDraft.with.Goals as goal
+use Rattle.sheets.proofs.drafts.RowsDraft.with_row.Goals as goal
 
 pub invariant_of-result : goal.invariant_of-result
 invariant_of-result c =
