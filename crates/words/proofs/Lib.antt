@@ -1,9 +1,9 @@
-pub mod Readings
+pub mod Ranges
 pub mod Ways
 pub mod Bits
 pub mod Inserting
 pub mod Determined
+pub mod FormsDetermined
 pub mod TakingOff
 pub mod Answering
 pub mod Comparing
-pub mod FormsDetermined

@@ -1,10 +1,12 @@
 -- A carrier's way down a form, by taking off the least descending letter.
-use Rattle.std.proofs.Common.{◌≡◌, ℕ, ◌+◌, ◌-◌, ◌<◌, ◌≤◌, Bool, true, false, List, [], ◌∷◌, ◌++◌, reverse, length, take, set, Some, None, Ok, Err, Decides, sym, refl, ap, ◌∙◌, subst, ⊎_elim, append_assoc, append-nil, arith, length-append, take_all, take_at}
-use Rattle.std.proofs.lemmas.List.{reverse-append, length-reverse, length-take-le, take_more_set}
+use Rattle.std.proofs.Common.{◌≡◌, ℕ, ◌+◌, ◌-◌, ◌<◌, ◌≤◌, Bool, true, false, [], ◌∷◌, ◌++◌, reverse, length, take, Some, None, Ok, Err, Option, Result, sym, refl, ap, ◌∙◌, subst, inr, ⊎_elim, append_assoc, append-nil, arith, length-append, take_all, take_at}
+use Rattle.std.specs.Option.{MatchOption}
+use Rattle.std.specs.Result.{is_ok}
+use Rattle.std.proofs.lemmas.List.{reverse-append, length-reverse}
 use Rattle.std.proofs.lemmas.Bool.{cases_eq, cases_Bool, both_ways}
-use Rattle.std.proofs.lemmas.Bool.Decides.{same_from_decides}
+use Rattle.arrayvec.specs.ArrayVec.{ArrayVec}
 use Rattle.coxeter.specs.Numbers.{negative}
-use Rattle.coxeter.specs.Groups.{Matrix, Letter}
+use Rattle.coxeter.specs.Groups.{Matrix, Letter, rank}
 use Rattle.coxeter.specs.Moves.{Word, Letters, Joined}
 use Rattle.coxeter.specs.Points.{Point, start, stepped, point, Least, Reads, home, back, Form}
 use Rattle.coxeter.specs.Lengths.{Descends}
@@ -15,20 +17,32 @@ use Rattle.coxeter.proofs.Readings.{least_same}
 use Rattle.coxeter.proofs.Forms.{joined_form, forms_exist}
 use Rattle.coxeter.proofs.Lengths.{signs_descend}
 use Rattle.carriers.specs.Frames.{Frame}
-use Rattle.carriers.specs.Carriers.{Laws, Took}
+use Rattle.carriers.specs.Carriers.{Laws, Stepped}
 use Rattle.carriers.specs.declared.faults.StepFault.{StepFault}
 use Rattle.carriers.specs.declared.faults.StepFault.TheVariants.{Letter as NoLetter, Reach as OutOfReach}
-use Rattle.words.specs.Reading.{Bare, Found, Fallen, Landed}
+use Rattle.words.specs.declared.faults.WordFault.{WordFault}
+use Rattle.words.specs.declared.faults.WordFault.TheVariants.{Reach}
+use Rattle.words.specs.Outcomes.{Entered, Passed, Stranded}
+use Rattle.words.specs.Reading.{Bare, LowestLetter, Found, Read}
 
 -- ---- the least descending letter
-pub sign_of : (f : Frame) (at : Word → Type 0) → Laws f at → (w : Word) → at w → (s : ℕ) → Letter f.group s → (r : Bool) → Decides r (Letter f.group s × Descends f.group w s) → r ≡ negative (point f.group w s)
-sign_of f at law w h s l r d =
-    let k = signs_descend f.group law.lawful w (law.letters w (law.within w h)) s l in
-    same_from_decides r (negative (point f.group w s)) d ((λ e. (l, k.0 e)), λ p. k.1 p.1)
+-- the letter s descends at the element of w
+abbrev pub Falls : Frame → Word → ℕ → Type 0
+Falls f w s = Letter f.group s × Descends f.group w s
 
-pub flat_more : (g : Matrix) (w : Word) (s : ℕ) → negative (point g w (s + 1)) ≡ false → ((a : ℕ) → 1 ≤ a → a ≤ s → negative (point g w a) ≡ false)
-    → (a : ℕ) → 1 ≤ a → a ≤ s + 1 → negative (point g w a) ≡ false
-flat_more g w s d h a i j = ⊎_elim (λ (q : a ≡ s + 1). subst (λ b. negative (point g w b) ≡ false) (sym q) d) (λ q. h a i (omega arith)) (cases_eq a (s + 1))
+-- the search for the least descending letter among n
+pub lowest : (f : Frame) (at : Word → Type 0) → Laws f at → (w : Word) → at w → (n : ℕ) → n ≡ rank f.group → (r : Option ℕ)
+    → MatchOption r ((k : ℕ) → 1 ≤ k → k ≤ n → ¬ Falls f w k) (λ x. (1 ≤ x) × (x ≤ n) × Falls f w x × ((k : ℕ) → 1 ≤ k → k < x → ¬ Falls f w k)) → LowestLetter f.group w r
+lowest f at law w here n e r h = by r h
+  where
+    flat : (a : ℕ) → Letter f.group a → ¬ Falls f w a → negative (point f.group w a) ≡ false
+    flat a l d = ⊎_elim (λ (k : negative (point f.group w a) ≡ true). absurd (d (l, (signs_descend f.group law.lawful w (law.letters w (law.within w here)) a l).0 k))) (λ k. k) (cases_Bool (negative (point f.group w a)))
+
+    by : (r : Option ℕ) → MatchOption r ((k : ℕ) → 1 ≤ k → k ≤ n → ¬ Falls f w k) (λ x. (1 ≤ x) × (x ≤ n) × Falls f w x × ((k : ℕ) → 1 ≤ k → k < x → ¬ Falls f w k)) → LowestLetter f.group w r
+    by None h = λ a l. flat a l (h a l.from_one (let i = l.to_rank in omega arith))
+    by (Some s) h =
+        let d = h.2 in
+        record { letter = d.0; below = (signs_descend f.group law.lawful w (law.letters w (law.within w here)) s d.0).1 d.1; first = λ a l i. flat a l (h.3 a l.from_one i) }
 
 -- ---- down the form
 -- the letters t were taken off; what is left of the form h is `rest`
@@ -101,8 +115,9 @@ module _ (f : Frame) (at : Word → Type 0) (law : Laws f at) (w h t : Word) (s 
         (λ q. leaving.held i (omega arith)) (cases_eq i (length t + 1));
   }
 
-  pub leave_fails : Form f.group w h → f.reach ((w ++ t) ++ (s ∷ [])) ≡ false → Fallen f w (length t)
-  leave_fails k r = record {
+  pub leave_fails : Entered f w → Form f.group w h → f.reach ((w ++ t) ++ (s ∷ [])) ≡ false → Stranded f w (length t)
+  leave_fails e k r = record {
+    entered = e;
     form = h;
     formed = k;
     below = leave_room;
@@ -111,68 +126,62 @@ module _ (f : Frame) (at : Word → Type 0) (law : Laws f at) (w h t : Word) (s 
         ap (λ n. f.reach (take n h)) d ∙ ap f.reach part_prefix ∙ ⊎_elim (λ (e : f.reach part.0 ≡ true). absurd (both_ways (f.reach ((w ++ t) ++ (s ∷ []))) r (law.reach_joined _ _ (join_back law.lawful part_joined) e))) (λ e. e) (cases_Bool (f.reach part.0));
   }
 
-pub leave_done : (f : Frame) (w h t : Word) → Form f.group w h → Leaving f w h t → Bare f.group (w ++ t) → Landed f w (reverse t)
-leave_done f w h t k l b =
+pub leave_done : (f : Frame) (w h t : Word) → Entered f w → Form f.group w h → Leaving f w h t → Bare f.group (w ++ t) → Passed f w (reverse t)
+leave_done f w h t n k l b =
     let e : reverse t ≡ h = ap (λ z. z ++ reverse t) (sym (bare f.group l.reads b)) ∙ l.whole in
     let c : length t ≡ length h = sym (length-reverse t) ∙ ap length e in
-    subst (λ z. Landed f w z) (sym e) (record {
+    subst (λ z. Passed f w z) (sym e) (record {
+      entered = n;
       formed = k;
       held = λ i j. let d : length h - (length h - i) ≡ i = omega arith in subst (λ n. f.reach (take n h) ≡ true) d (l.held (length h - i) (omega arith));
     })
 
--- where a strip stands: n letters are taken off
-pub record Taking (f : Frame) (w : Word) (buffer : List ℕ) (n : ℕ) : Type 0 where
+-- the carrier x stands at w with the letters t of its form taken off
+pub record Taking {X : Type 0} (frame : X → Frame) (at : X → Word → Type 0) (f : Frame) (w : Word) (x : X) (t : Word) : Type 0 where
+  pub same : frame x ≡ f
+  pub here : at x (w ++ t)
   pub form : Word
   pub formed : Formed f.group w form
-  pub room : n ≤ length w
-  pub leaving : Leaving f w form (take n buffer)
+  pub leaving : Leaving f w form t
 
-pub take_off_none : (f : Frame) (at : Word → Type 0) → Laws f at → (w : Word) (buffer : List ℕ) → at w → Taking f w buffer 0
-take_off_none f at law w buffer here =
-    let r = forms_exist f.group law.lawful w (law.letters w (law.within w here)) in
-    record { form = r.0; formed = r.1; room = omega arith; leaving = leave_none f at law w r.0 here r.1 }
+module _ {X : Type 0} (frame : X → Frame) (at : X → Word → Type 0) (f : Frame) (w : Word) where
+  pub take_none : (x : X) (t : Word) → Laws (frame x) (at x) → frame x ≡ f → at x w → t ≡ [] → Taking frame at f w x t
+  take_none x t raw e here n =
+      let law : Laws f (at x) = subst (λ (h : Frame). Laws h (at x)) e raw in
+      let r = forms_exist f.group law.lawful w (law.letters w (law.within w here)) in
+      subst (λ z. Taking frame at f w x z) (sym n) (record { same = e; here = subst (λ z. at x z) (sym (append-nil w)) here; form = r.0; formed = r.1; leaving = leave_none f (at x) law w r.0 here r.1 })
 
-module _ {X : Type 0} (frame : X → Frame) (at : X → Word → Type 0) (x y : X) (f : Frame) (w : Word) (b : List ℕ) (n : ℕ) (fits : length w ≤ length b) (same : frame x ≡ f) (raw : Laws (frame x) (at x)) (here : at x (w ++ take n b))
-    (now : Taking f w b n) where
-  law : Laws f (at x)
-  law = subst (λ (h : Frame). Laws h (at x)) same raw
+  module _ (x : X) (t : Word) (raw : Laws (frame x) (at x)) (now : Taking frame at f w x t) where
+    law : Laws f (at x)
+    law = subst (λ (h : Frame). Laws h (at x)) now.same raw
 
-  count : length (take n b) ≡ n
-  count = let r = now.room in length-take-le n b (omega arith)
+    module _ (s : ℕ) (found : Found (frame x).group (at x) (Some s)) where
+      least : Least f.group (point f.group (w ++ t)) s
+      least = subst (λ (h : Frame). Least h.group (point h.group (w ++ t)) s) now.same (found.found (w ++ t) now.here)
 
-  module _ (s : ℕ) (found : Found (frame x).group (at x) (Some s)) where
-    least : Least f.group (point f.group (w ++ take n b)) s
-    least = subst (λ (h : Frame). Least h.group (point h.group (w ++ take n b)) s) same (found.found (w ++ take n b) here)
+      pub take_room : length t < length w
+      take_room = omega (arith, leave_room f (at x) law w now.form t s now.here now.leaving least, now.formed.no_longer)
 
-    pub take_off_room : n < length w
-    take_off_room = omega (arith, leave_room f (at x) law w now.form (take n b) s here now.leaving least, count, now.formed.no_longer)
-
-    pub take_off_more : Took frame at x y s (Ok tt) → at y (w ++ take (n + 1) (set b n s)) × Taking f w (set b n s) (n + 1)
-    take_off_more t =
-        let r = take_off_room in
-        let e : take (n + 1) (set b n s) ≡ take n b ++ (s ∷ []) = take_more_set b n s (omega arith) in
-        let m = t.1 (w ++ take n b) here in
-        let i : f.reach ((w ++ take n b) ++ (s ∷ [])) ≡ true = subst (λ (h : Frame). h.reach ((w ++ take n b) ++ (s ∷ [])) ≡ true) same m.0 in (
-          subst (λ z. at y (w ++ z)) (sym e) (subst (λ z. at y z) (append_assoc w (take n b) (s ∷ [])) m.1),
-          record {
+      pub take_more : (y : X) (r : Result (Unit {0}) StepFault) (u : Word) → Stepped frame at x y s r → is_ok r ≡ true → u ≡ t ++ (s ∷ []) → Taking frame at f w y u
+      take_more y (Ok _) u c o e =
+          let m = c.took.1 (w ++ t) now.here in
+          let i : f.reach ((w ++ t) ++ (s ∷ [])) ≡ true = subst (λ (h : Frame). h.reach ((w ++ t) ++ (s ∷ [])) ≡ true) now.same m.0 in
+          subst (λ z. Taking frame at f w y z) (sym e) (record {
+            same = c.same ∙ now.same;
+            here = subst (λ z. at y z) (append_assoc w t (s ∷ [])) m.1;
             form = now.form;
             formed = now.formed;
-            room = omega arith;
-            leaving = subst (λ z. Leaving f w now.form z) (sym e) (leave_more f (at x) law w now.form (take n b) s here now.leaving least i);
-          },
-        )
+            leaving = leave_more f (at x) law w now.form t s now.here now.leaving least i;
+          })
+      take_more y (Err e) u c o d = absurd (both_ways false refl o)
 
-    pub take_off_fails : (e : StepFault) → e ≡ OutOfReach → Took frame at x y s (Err e) → (n ≤ length w) × Fallen f w n
-    take_off_fails e d u =
-        let t : Took frame at x y s (Err OutOfReach) = subst (λ v. Took frame at x y s (Err v)) d u in
-        let i : f.reach ((w ++ take n b) ++ (s ∷ [])) ≡ false = subst (λ (h : Frame). h.reach ((w ++ take n b) ++ (s ∷ [])) ≡ false) same (t.2 (w ++ take n b) here) in
-        (now.room, subst (λ z. Fallen f w z) count (leave_fails f (at x) law w now.form (take n b) s here now.leaving least now.formed.form i))
+      -- a step by a letter of the group is refused by the reach alone
+      pub take_fails : Entered f w → (y : X) (r : Result (Unit {0}) StepFault) (q : Result (ArrayVec ℕ) WordFault) → Stepped frame at x y s r → is_ok r ≡ false → q ≡ Err (Reach (length w + length t)) → Read f w q
+      take_fails n y (Ok _) q c o e = absurd (both_ways true o refl)
+      take_fails n y (Err NoLetter) q c o e = absurd (c.took.1 (subst (λ (h : Frame). Letter h.group s) (sym now.same) least.letter))
+      take_fails n y (Err OutOfReach) q c o e =
+          let i : f.reach ((w ++ t) ++ (s ∷ [])) ≡ false = subst (λ (h : Frame). h.reach ((w ++ t) ++ (s ∷ [])) ≡ false) now.same (c.took.2 (w ++ t) now.here) in
+          subst (λ z. Read f w z) (sym e) (record { told = inr (length t, refl, leave_fails f (at x) law w now.form t s now.here now.leaving least n now.formed.form i) })
 
-    pub take_off_letter : (e : StepFault) → e ≡ NoLetter → Took frame at x y s (Err e) → ⊥
-    take_off_letter e d u =
-        let t : Took frame at x y s (Err NoLetter) = subst (λ v. Took frame at x y s (Err v)) d u in
-        t.1 (subst (λ (h : Frame). Letter h.group s) (sym same) least.letter)
-
-  pub take_off_done : Found (frame x).group (at x) None → (n ≤ length w) × Landed f w (reverse (take n b))
-  take_off_done found =
-      (now.room, leave_done f w now.form (take n b) now.formed.form now.leaving (subst (λ (h : Frame). Bare h.group (w ++ take n b)) same (found.found (w ++ take n b) here)))
+    pub take_done : Entered f w → Found (frame x).group (at x) None → Passed f w (reverse t)
+    take_done n found = leave_done f w now.form t n now.formed.form now.leaving (subst (λ (h : Frame). Bare h.group (w ++ t)) now.same (found.found (w ++ t) now.here))

@@ -1,5 +1,7 @@
 -- The number and the place of each fault of a word call; the layer is that of words.
 use Rattle.std.specs.Prelude.{ℕ}
+use Rattle.refusals.specs.declared.layer.Layer.TheVariants.{Word}
+use Rattle.refusals.specs.declared.report.Report.{Report}
 use Rattle.words.specs.declared.faults.WordFault.{WordFault}
 use Rattle.words.specs.declared.faults.WordFault.TheVariants.{Short, TooLong, Letter, Reach}
 
@@ -16,3 +18,7 @@ word_place Short = 0
 word_place TooLong = 4096
 word_place (Letter k) = k
 word_place (Reach k) = k
+
+-- what is reported of the refusal
+abbrev pub word_report : WordFault → Report
+word_report f = record { number = word_number f; place = word_place f; layer = Word }

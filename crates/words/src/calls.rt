@@ -1,8 +1,8 @@
 //! The calls over words.
 
-ghost use Rattle.std.specs.Prelude.{◌≡◌, ℕ, ◌+◌, ◌≤◌, [], ◌++◌, reverse};
+ghost use Rattle.std.specs.Prelude.{◌++◌, reverse};
 ghost use Rattle.coxeter.specs.Moves.{Word};
-ghost use Rattle.carriers.specs.Carriers.{Laws};
+ghost use Rattle.carriers.specs.Carriers.{BroughtHome};
 ghost use Rattle.words.specs.Sets.{Descending};
 ghost use Rattle.words.specs.Views.{letters_of};
 ghost use Rattle.words.specs.Outcomes.{DescentsTold, Measured, Written};
@@ -19,11 +19,10 @@ use carriers::carrier::Carrier;
 fn descending<C: Carrier>(carrier: &C) -> Descents
     ensures { (w : Word) → C.Carrier.at carrier.now w → Descending (C.Carrier.frame carrier.now).group w result.bits }
 {
-    let n = carrier.rank();
-    let mut set = Descents::none();
-    for s in 0..n {
-        if carrier.descends(s + 1) {
-            set = set.with(s + 1);
+    let mut set = Descents::default();
+    for s in 1..=carrier.rank() {
+        if carrier.descends(s) {
+            set = set.with(s);
         }
     }
     set
@@ -31,60 +30,42 @@ fn descending<C: Carrier>(carrier: &C) -> Descents
 
 /// The letters that descend at the word's element. The carrier is left at home.
 pub fn descents<C: Carrier>(carrier: &mut C, word: &[u8]) -> Result<Descents, WordFault>
-    ensures same { C.Carrier.frame carrier.new ≡ C.Carrier.frame carrier.old }
-    ensures laws { Laws (C.Carrier.frame carrier.new) (C.Carrier.at carrier.new) }
-    ensures here { C.Carrier.at carrier.new [] }
+    ensures home { BroughtHome C.Carrier.frame C.Carrier.at carrier.old carrier.new }
     ensures told { DescentsTold (C.Carrier.frame carrier.old) word.now result }
 {
-    match stand_at(carrier, Formed::Plain(word)) {
-        Err(fault) => Err(fault),
-        Ok(()) => {
-            let set = descending(carrier);
-            carrier.home();
-            Ok(set)
-        }
-    }
+    let set = stand_at(carrier, Formed::Plain(word)).map(|()| descending(carrier));
+    carrier.home();
+    set
 }
 
 /// The letter count of the form of the word formed.
-fn measure<C: Carrier>(carrier: &mut C, view: Formed) -> Result<usize, WordFault>
-    ensures same { C.Carrier.frame carrier.new ≡ C.Carrier.frame carrier.old }
-    ensures laws { Laws (C.Carrier.frame carrier.new) (C.Carrier.at carrier.new) }
-    ensures here { C.Carrier.at carrier.new [] }
-    ensures measured { Measured (C.Carrier.frame carrier.old) (letters_of view.entry) result }
+fn measure<C: Carrier>(carrier: &mut C, word: Formed) -> Result<usize, WordFault>
+    ensures home { BroughtHome C.Carrier.frame C.Carrier.at carrier.old carrier.new }
+    ensures measured { Measured (C.Carrier.frame carrier.old) (letters_of word.entry) result }
 {
-    let mut letters = [0; 4096];
-    read_form(carrier, view, &mut letters)
+    let letters = read_form(carrier, word)?;
+    Ok(letters.len())
 }
 
 /// The form of the word formed, at the front of `out`.
-fn write<C: Carrier>(carrier: &mut C, view: Formed, out: &mut [u8]) -> Result<usize, WordFault>
-    ensures same { C.Carrier.frame carrier.new ≡ C.Carrier.frame carrier.old }
-    ensures laws { Laws (C.Carrier.frame carrier.new) (C.Carrier.at carrier.new) }
-    ensures here { C.Carrier.at carrier.new [] }
-    ensures written { Written (C.Carrier.frame carrier.old) (letters_of view.entry) out.old out.new result }
+fn write<C: Carrier>(carrier: &mut C, word: Formed, out: &mut [u8]) -> Result<usize, WordFault>
+    ensures home { BroughtHome C.Carrier.frame C.Carrier.at carrier.old carrier.new }
+    ensures written { Written (C.Carrier.frame carrier.old) (letters_of word.entry) out.old out.new result }
 {
-    if out.len() < view.len().min(4096) {
+    if out.len() < word.len().min(4096) {
         carrier.home();
         return Err(WordFault::Short);
     }
-    let mut letters = [0; 4096];
-    match read_form(carrier, view, &mut letters) {
-        Ok(n) => {
-            for i in 0..n {
-                out[i] = letters[n - 1 - i];
-            }
-            Ok(n)
-        }
-        Err(fault) => Err(fault),
-    }
+    let letters = read_form(carrier, word)?;
+    let form = &mut out[..letters.len()];
+    form.copy_from_slice(letters.as_slice());
+    form.reverse();
+    Ok(letters.len())
 }
 
 /// The form of the word's element, at the front of `out`, and its letter count.
 pub fn form<C: Carrier>(carrier: &mut C, word: &[u8], out: &mut [u8]) -> Result<usize, WordFault>
-    ensures same { C.Carrier.frame carrier.new ≡ C.Carrier.frame carrier.old }
-    ensures laws { Laws (C.Carrier.frame carrier.new) (C.Carrier.at carrier.new) }
-    ensures here { C.Carrier.at carrier.new [] }
+    ensures home { BroughtHome C.Carrier.frame C.Carrier.at carrier.old carrier.new }
     ensures written { Written (C.Carrier.frame carrier.old) word.now out.old out.new result }
     ensures told { FormTold (C.Carrier.frame carrier.old).group word.now out.new result }
 {
@@ -98,9 +79,7 @@ pub fn product<'w, C: Carrier>(
     v: &'w [u8],
     out: &mut [u8],
 ) -> Result<usize, WordFault>
-    ensures same { C.Carrier.frame carrier.new ≡ C.Carrier.frame carrier.old }
-    ensures laws { Laws (C.Carrier.frame carrier.new) (C.Carrier.at carrier.new) }
-    ensures here { C.Carrier.at carrier.new [] }
+    ensures home { BroughtHome C.Carrier.frame C.Carrier.at carrier.old carrier.new }
     ensures written { Written (C.Carrier.frame carrier.old) (u.now ++ v.now) out.old out.new result }
     ensures told { FormTold (C.Carrier.frame carrier.old).group (u.now ++ v.now) out.new result }
 {
@@ -109,9 +88,7 @@ pub fn product<'w, C: Carrier>(
 
 /// The form of the inverse of the word's element, at the front of `out`, and its letter count.
 pub fn inverse<C: Carrier>(carrier: &mut C, word: &[u8], out: &mut [u8]) -> Result<usize, WordFault>
-    ensures same { C.Carrier.frame carrier.new ≡ C.Carrier.frame carrier.old }
-    ensures laws { Laws (C.Carrier.frame carrier.new) (C.Carrier.at carrier.new) }
-    ensures here { C.Carrier.at carrier.new [] }
+    ensures home { BroughtHome C.Carrier.frame C.Carrier.at carrier.old carrier.new }
     ensures written { Written (C.Carrier.frame carrier.old) (reverse word.now) out.old out.new result }
     ensures told { FormTold (C.Carrier.frame carrier.old).group (reverse word.now) out.new result }
 {
@@ -120,9 +97,7 @@ pub fn inverse<C: Carrier>(carrier: &mut C, word: &[u8], out: &mut [u8]) -> Resu
 
 /// The length of the word's element.
 pub fn length<C: Carrier>(carrier: &mut C, word: &[u8]) -> Result<usize, WordFault>
-    ensures same { C.Carrier.frame carrier.new ≡ C.Carrier.frame carrier.old }
-    ensures laws { Laws (C.Carrier.frame carrier.new) (C.Carrier.at carrier.new) }
-    ensures here { C.Carrier.at carrier.new [] }
+    ensures home { BroughtHome C.Carrier.frame C.Carrier.at carrier.old carrier.new }
     ensures measured { Measured (C.Carrier.frame carrier.old) word.now result }
     ensures told { LengthTold (C.Carrier.frame carrier.old).group word.now result }
 {
@@ -135,9 +110,7 @@ pub fn distance<'w, C: Carrier>(
     u: &'w [u8],
     v: &'w [u8],
 ) -> Result<usize, WordFault>
-    ensures same { C.Carrier.frame carrier.new ≡ C.Carrier.frame carrier.old }
-    ensures laws { Laws (C.Carrier.frame carrier.new) (C.Carrier.at carrier.new) }
-    ensures here { C.Carrier.at carrier.new [] }
+    ensures home { BroughtHome C.Carrier.frame C.Carrier.at carrier.old carrier.new }
     ensures measured { Measured (C.Carrier.frame carrier.old) (reverse u.now ++ v.now) result }
     ensures told { DistanceTold (C.Carrier.frame carrier.old).group u.now v.now result }
 {

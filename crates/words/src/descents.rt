@@ -4,20 +4,12 @@ ghost use Rattle.std.specs.Prelude.{◌≡◌, ℕ, ◌<◌, ◌≤◌, false, �
 ghost use Rattle.words.specs.Sets.{has, letters_in, LeastIn};
 
 /// A set of letters in one byte: letter s is worth 2 to the power s − 1.
-#[derive(Clone, Copy, Debug, PartialEq)]
+#[derive(Clone, Copy, Debug, Default, PartialEq)]
 pub struct Descents {
     bits: u8,
 }
 
 impl Descents {
-    /// No letter.
-    pub(crate) fn none() -> Descents
-        ensures byte { result.bits < 256 }
-        ensures empty { (s : ℕ) → has result.bits s ≡ false }
-    {
-        Descents { bits: 0 }
-    }
-
     /// The set with the letter s in it.
     pub(crate) fn with(self, s: u8) -> Descents
         requires { (1 ≤ s) × (s ≤ 8) }

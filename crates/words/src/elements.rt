@@ -1,8 +1,8 @@
 //! Do two words, on two carriers, name one element?
 
-ghost use Rattle.std.specs.Prelude.{◌≡◌, ℕ, ◌+◌, ◌-◌, ◌<◌, ◌≤◌, [], length, take, Decides};
+ghost use Rattle.std.specs.Prelude.{◌≡◌, ℕ, Decides};
 ghost use Rattle.coxeter.specs.Groups.{Letter, answered_exponent};
-ghost use Rattle.carriers.specs.Carriers.{Laws};
+ghost use Rattle.carriers.specs.Carriers.{BroughtHome};
 ghost use Rattle.words.specs.Promises.{Compared};
 
 use crate::faults::WordFault;
@@ -21,33 +21,11 @@ pub enum Comparison {
     OtherGroup,
 }
 
-/// Are the first n bytes of a the first m of b?
-fn equal_fronts(a: &[u8], n: usize, b: &[u8], m: usize) -> bool
-    requires { (n ≤ length a.now) × (m ≤ length b.now) }
-    ensures { Decides result (take n a.now ≡ take m b.now) }
-{
-    if n != m {
-        return false;
-    }
-    for i in 0..n {
-        if a[i] != b[i] {
-            return false;
-        }
-    }
-    true
-}
-
 /// Has s the same exponents in both groups, with every letter of the first?
 fn same_exponents<C: Carrier, D: Carrier>(c: &C, d: &D, s: u8) -> bool
     ensures { Decides result ((t : ℕ) → Letter (C.Carrier.frame c.now).group t → answered_exponent (C.Carrier.frame c.now).group s t ≡ answered_exponent (D.Carrier.frame d.now).group s t) }
 {
-    let n = c.rank();
-    for t in 0..n {
-        if c.exponent(s, t + 1) != d.exponent(s, t + 1) {
-            return false;
-        }
-    }
-    true
+    (1..=c.rank()).all(|t| c.exponent(s, t) == d.exponent(s, t))
 }
 
 /// Are the two carriers of one group?
@@ -55,15 +33,7 @@ pub fn same_group<C: Carrier, D: Carrier>(c: &C, d: &D) -> bool
     ensures { Decides result ((C.Carrier.frame c.now).group ≡ (D.Carrier.frame d.now).group) }
 {
     let n = c.rank();
-    if n != d.rank() {
-        return false;
-    }
-    for s in 0..n {
-        if !same_exponents(c, d, s + 1) {
-            return false;
-        }
-    }
-    true
+    n == d.rank() && (1..=n).all(|s| same_exponents(c, d, s))
 }
 
 /// Do the two words name one element? The carrier c takes u, and d takes v. Both are left at home.
@@ -73,12 +43,8 @@ pub fn same_element<C: Carrier, D: Carrier>(
     u: &[u8],
     v: &[u8],
 ) -> Result<Comparison, WordFault>
-    ensures same { C.Carrier.frame c.new ≡ C.Carrier.frame c.old }
-    ensures laws { Laws (C.Carrier.frame c.new) (C.Carrier.at c.new) }
-    ensures here { C.Carrier.at c.new [] }
-    ensures other_same { D.Carrier.frame d.new ≡ D.Carrier.frame d.old }
-    ensures other_laws { Laws (D.Carrier.frame d.new) (D.Carrier.at d.new) }
-    ensures other_here { D.Carrier.at d.new [] }
+    ensures home { BroughtHome C.Carrier.frame C.Carrier.at c.old c.new }
+    ensures other_home { BroughtHome D.Carrier.frame D.Carrier.at d.old d.new }
     ensures compared { Compared (C.Carrier.frame c.old) (D.Carrier.frame d.old) u.now v.now result }
 {
     let one = same_group(c, d);
@@ -87,21 +53,11 @@ pub fn same_element<C: Carrier, D: Carrier>(
         c.home();
         return Ok(Comparison::OtherGroup);
     }
-    let mut a = [0; 4096];
-    let mut b = [0; 4096];
-    match read_form(c, Formed::Plain(u), &mut a) {
-        Err(fault) => Err(fault),
-        Ok(n) => {
-            match read_form(d, Formed::Plain(v), &mut b) {
-                Err(other) => Err(other),
-                Ok(m) => {
-                    if equal_fronts(&a, n, &b, m) {
-                        Ok(Comparison::Same)
-                    } else {
-                        Ok(Comparison::Unlike)
-                    }
-                }
-            }
-        }
+    let a = read_form(c, Formed::Plain(u))?;
+    let b = read_form(d, Formed::Plain(v))?;
+    if a == b {
+        Ok(Comparison::Same)
+    } else {
+        Ok(Comparison::Unlike)
     }
 }

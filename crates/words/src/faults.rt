@@ -1,11 +1,11 @@
 //! Why a call over a word is refused.
 
 ghost use Rattle.std.specs.Prelude.{◌≡◌};
-ghost use Rattle.refusals.specs.declared.layer.Layer.{Layer};
-ghost use Rattle.words.specs.Faults.{word_number, word_place};
+ghost use Rattle.words.specs.Faults.{word_report};
 
 use refusals::layer::Layer;
 use refusals::refusal::Refusal;
+use refusals::report::Report;
 
 /// The fault of a word, or of the buffer handed over with it.
 #[derive(Clone, Copy, Debug, PartialEq)]
@@ -21,31 +21,19 @@ pub enum WordFault {
 }
 
 impl Refusal for WordFault {
-    ghost numbered = { word_number };
+    ghost reported = { word_report };
 
-    ghost placed = { word_place };
-
-    ghost arisen = { λ _. Layer.Word };
-
-    fn number(&self) -> u8 {
-        match self {
-            WordFault::Short => 9,
-            WordFault::TooLong => 8,
-            WordFault::Letter(_) => 7,
-            WordFault::Reach(_) => 11,
+    fn report(&self) -> Report {
+        let (number, place) = match self {
+            WordFault::Short => (9, 0),
+            WordFault::TooLong => (8, 4096),
+            WordFault::Letter(index) => (7, *index),
+            WordFault::Reach(index) => (11, *index),
+        };
+        Report {
+            number,
+            place,
+            layer: Layer::Word,
         }
-    }
-
-    fn place(&self) -> usize {
-        match self {
-            WordFault::Short => 0,
-            WordFault::TooLong => 4096,
-            WordFault::Letter(index) => *index,
-            WordFault::Reach(index) => *index,
-        }
-    }
-
-    fn layer(&self) -> Layer {
-        Layer::Word
     }
 }

@@ -1,9 +1,10 @@
 //! The word that a call forms from the words that it is given.
 
-ghost use Rattle.std.specs.Prelude.{◌≡◌, ℕ, ◌+◌, ◌-◌, ◌<◌, ◌≤◌, length, slice_index};
+ghost use Rattle.std.specs.Prelude.{◌≡◌, length};
+ghost use Rattle.std.specs.Iterator.{YieldsFirst, item_count};
 ghost use Rattle.words.specs.Views.{letters_of};
 
-/// The word formed, read where the words given stand.
+/// The word formed, read where the words given stand: an iterator over its letters.
 #[derive(Clone, Copy)]
 pub(crate) enum Formed<'a> {
     /// The word itself.
@@ -22,26 +23,30 @@ impl<'a> Formed<'a> {
         ensures { result ≡ length (letters_of self.entry) }
     {
         match self {
-            Formed::Plain(a) => a.len(),
-            Formed::Reversed(a) => a.len(),
-            Formed::Joined(a, b) => a.len() + b.len(),
-            Formed::Between(a, b) => a.len() + b.len(),
+            Formed::Plain(a) | Formed::Reversed(a) => a.len(),
+            Formed::Joined(a, b) | Formed::Between(a, b) => a.len() + b.len(),
         }
     }
+}
 
-    /// Its letter at index i.
-    pub(crate) fn letter(self, i: usize) -> u8
-        requires { i < length (letters_of self) }
-        ensures { result ≡ slice_index (letters_of self.entry) i }
-    {
+impl<'a> Iterator for Formed<'a> {
+    type Item = u8;
+
+    ghost next_gives = { YieldsFirst letters_of };
+
+    ghost remaining = { item_count letters_of };
+
+    fn next(&mut self) -> Option<u8> {
         match self {
-            Formed::Plain(a) => a[i],
-            Formed::Reversed(a) => a[a.len() - 1 - i],
-            Formed::Joined(a, b) => if i < a.len() { a[i] } else { b[i - a.len()] },
-            Formed::Between(a, b) => if i < a.len() {
-                a[a.len() - 1 - i]
-            } else {
-                b[i - a.len()]
+            Formed::Plain(a) => a.split_off_first().copied(),
+            Formed::Reversed(a) => a.split_off_last().copied(),
+            Formed::Joined(a, b) => match a.split_off_first() {
+                Some(s) => Some(*s),
+                None => b.split_off_first().copied(),
+            },
+            Formed::Between(a, b) => match a.split_off_last() {
+                Some(s) => Some(*s),
+                None => b.split_off_first().copied(),
             },
         }
     }

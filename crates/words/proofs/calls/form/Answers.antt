@@ -1,14 +1,5 @@
-use Rattle.std.proofs.Common.{subst}
-use Rattle.coxeter.specs.Groups.{Lawful}
-use Rattle.carriers.specs.Frames.{Frame}
 use Rattle.words.proofs.Answering.{told_of}
 use Rattle.words.proofs.calls.form.Goals as goal
 
-pub returns : goal.returns
-returns g c = record {
-  same = c.write.ensures.same;
-  laws = c.write.ensures.laws;
-  here = c.write.ensures.here;
-  written = c.write.ensures.written;
-  told = told_of (g.C.Carrier.frame c.args.carrier.now) (subst (λ (f : Frame). Lawful f.group) c.write.ensures.same c.write.ensures.laws.lawful) c.args.word.now c.args.out.now c.write.new.out c.write.result c.write.ensures.written;
-}
+pub returns-clause-told : goal.returns-clause-told
+returns-clause-told g c = told_of (g.C.Carrier.frame c.args.carrier.now) (g.met.C.Carrier.laws c.args.carrier.now).lawful c.args.word.now c.args.out.now c.write.new.out c.write.result c.write.ensures.written

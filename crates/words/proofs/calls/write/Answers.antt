@@ -1,33 +1,22 @@
-use Rattle.std.proofs.Common.{◌-◌, get_or, ◌∙◌, arith}
-use Rattle.std.proofs.lemmas.List.{drop-set-lt}
+use Rattle.std.proofs.Common.{◌≤◌, length, sym, ap, ◌∙◌, arith}
+use Rattle.std.proofs.lemmas.List.{length-take-le}
 use Rattle.words.specs.Views.{letters_of}
-use Rattle.words.proofs.Answering.{reversed_more, written_ok, written_err}
+use Rattle.words.proofs.Answering.{read_fits}
+use Rattle.words.proofs.calls.write.Given.{Over}
 use Rattle.words.proofs.calls.write.Goals as goal
+use Rattle.words.proofs.calls.write.Goals.{After-len-2}
 
-pub loop-i-preserved : goal.loop-i-preserved
-loop-i-preserved g c =
-    let m = c.in-Ok.ensures.read.told in
-    let k = m.0 in let j = m.1.entered.few in (
-      reversed_more c.loop-i.out c.read_form.new.letters c.in-Ok.n c.loop-i.i (omega arith) (omega arith) (omega arith) c.loop-i.invariant.0,
-      drop-set-lt c.in-Ok.n c.loop-i.out c.loop-i.i (get_or c.read_form.new.letters (c.in-Ok.n - 1 - c.loop-i.i) 0) (omega arith) ∙ c.loop-i.invariant.1,
-    )
+-- the buffer has room for the letters
+fits : (g : Over) (c : After-len-2 g) → c.len-2.result ≤ length c.args.out.now
+fits g c = omega (arith, read_fits (g.C.Carrier.frame c.args.carrier.now) (g.met.C.Carrier.laws c.args.carrier.now).lawful (letters_of c.args.word) c.in_ok-letters.letters.items (length c.args.out.now) c.in_ok-letters.ensures.read.told (omega arith))
 
-pub returns-after-loop-i : goal.returns-after-loop-i
-returns-after-loop-i g c =
-    let e = c.in-Ok.ensures in
-    record {
-      same = e.same;
-      laws = e.laws;
-      here = e.here;
-      written = written_ok (g.C.Carrier.frame c.args.carrier.now) (letters_of c.args.view) c.read_form.new.letters c.args.out.now c.loop-i.out c.in-Ok.n c.loop-i.i (omega arith) (omega arith) e.read (omega arith) (omega arith) c.loop-i.invariant.0 c.loop-i.invariant.1;
-    }
+pub slice_bounds-form-end : goal.slice_bounds-form-end
+slice_bounds-form-end g c = fits g c
 
-pub returns-in-Err : goal.returns-in-Err
-returns-in-Err g c =
-    let e = c.in-Err.ensures in
-    record {
-      same = e.same;
-      laws = e.laws;
-      here = e.here;
-      written = written_err (g.C.Carrier.frame c.args.carrier.now) (letters_of c.args.view) c.args.out.now c.in-Err.fault (omega arith) e.read.told;
-    }
+pub slice_bounds-form-end-2 : goal.slice_bounds-form-end-2
+slice_bounds-form-end-2 g c = sym (length-take-le c.len-2.result c.args.out.now (fits g (goal.at.slice_bounds-form-end-2 g c).After-len-2))
+
+pub copy_from_slice-requires : goal.copy_from_slice-requires
+copy_from_slice-requires g c =
+    let f = fits g (goal.at.copy_from_slice-requires g c).After-len-2 in
+    length-take-le c.len-2.result c.args.out.now f ∙ c.len-2.ensures.value ∙ ap length (sym c.as_slice.ensures.value)

@@ -1,59 +1,34 @@
-use Rattle.std.proofs.Common.{◌<◌, length, sym, refl, ◌∙◌, subst, append-nil, arith}
-use Rattle.coxeter.specs.Moves.{Word}
+use Rattle.std.proofs.Common.{rules, ◌<◌, length, refl, arith}
 use Rattle.words.specs.Views.{letters_of}
-use Rattle.words.proofs.TakingOff.{take_off_none, take_off_room, take_off_more, take_off_fails, take_off_letter, take_off_done}
+use Rattle.words.proofs.TakingOff.{take_none, take_room, take_more, take_fails, take_done}
 use Rattle.words.proofs.reading.take_off.Given.{Over}
 use Rattle.words.proofs.reading.take_off.Goals as goal
+use Rattle.words.proofs.reading.take_off.Goals.{In-Some}
 
 pub loop-s-init : goal.loop-s-init
-loop-s-init g c = (
-  refl,
-  c.requires.laws,
-  subst (λ (v : Word). g.C.Carrier.at c.args.carrier.now v) (sym (append-nil (letters_of c.args.view))) c.requires.here,
-  take_off_none (g.C.Carrier.frame c.args.carrier.now) (g.C.Carrier.at c.args.carrier.now) c.requires.laws (letters_of c.args.view) c.args.letters.now c.requires.here,
-)
+loop-s-init g c = take_none g.C.Carrier.frame g.C.Carrier.at (g.C.Carrier.frame c.args.carrier.now) (letters_of c.args.word) c.args.carrier.now _ (g.met.C.Carrier.laws c.args.carrier.now) refl c.requires.here c.new-letters.ensures
 
--- there is room for one more letter
-room : (g : Over) (c : goal.In-Ok g) → c.loop-s.n < length (letters_of c.args.view)
-room g c =
-    let i = c.loop-s.invariant in
-    take_off_room g.C.Carrier.frame g.C.Carrier.at c.loop-s.carrier c.step.new.self (g.C.Carrier.frame c.args.carrier.now) (letters_of c.args.view) c.loop-s.letters c.loop-s.n (omega arith) i.0 i.1 i.2 i.3 c.in-Some.s c.in-Some.ensures
+-- there is a letter to take off
+room : (g : Over) (c : In-Some g) → length c.loop-s.letters.items < length (letters_of c.args.word)
+room g c = take_room g.C.Carrier.frame g.C.Carrier.at (g.C.Carrier.frame c.args.carrier.now) (letters_of c.args.word) c.loop-s.carrier c.loop-s.letters.items (g.met.C.Carrier.laws c.loop-s.carrier) c.loop-s.invariant c.in-Some.s c.in-Some.ensures
 
-pub bounds-letters-n : goal.bounds-letters-n
-bounds-letters-n g c = omega (arith, room g c)
+pub push-requires : goal.push-requires
+push-requires g c = let r = room g (goal.at.push-requires g c).In-Some in search rules
 
 pub loop-s-smaller : goal.loop-s-smaller
-loop-s-smaller g c = omega (arith, room g c)
+loop-s-smaller g c = omega (arith, room g (goal.at.loop-s-smaller g c).In-Some)
 
 pub loop-s-preserved : goal.loop-s-preserved
 loop-s-preserved g c =
-    let i = c.loop-s.invariant in
-    let t = c.in-Ok.ensures in
-    let m = take_off_more g.C.Carrier.frame g.C.Carrier.at c.loop-s.carrier c.step.new.self (g.C.Carrier.frame c.args.carrier.now) (letters_of c.args.view) c.loop-s.letters c.loop-s.n (omega arith) i.0 i.1 i.2 i.3 c.in-Some.s c.in-Some.ensures t.took in
-    (t.same ∙ i.0, t.laws, m.0, m.1)
+    take_more g.C.Carrier.frame g.C.Carrier.at (g.C.Carrier.frame c.args.carrier.now) (letters_of c.args.word) c.loop-s.carrier c.loop-s.letters.items (g.met.C.Carrier.laws c.loop-s.carrier) c.loop-s.invariant c.in-Some.s c.in-Some.ensures
+    c.step.new.self c.step.result _ c.step.ensures (search rules) c.push.ensures.items
 
-pub unreachable-requires : goal.unreachable-requires
-unreachable-requires g c =
-    let i = c.loop-s.invariant in
-    take_off_letter g.C.Carrier.frame g.C.Carrier.at c.loop-s.carrier c.step.new.self (g.C.Carrier.frame c.args.carrier.now) (letters_of c.args.view) c.loop-s.letters c.loop-s.n (omega arith) i.0 i.1 i.2 i.3 c.in-Some.s c.in-Some.ensures
-    c.in-Err.fault c.in-Letter.is c.in-Err.ensures.took
+pub returns-in_err-map_err-clause-read : goal.returns-in_err-map_err-clause-read
+returns-in_err-map_err-clause-read g c =
+    take_fails g.C.Carrier.frame g.C.Carrier.at (g.C.Carrier.frame c.args.carrier.now) (letters_of c.args.word) c.loop-s.carrier c.loop-s.letters.items (g.met.C.Carrier.laws c.loop-s.carrier) c.loop-s.invariant c.in-Some.s c.in-Some.ensures
+    c.requires.entered c.step.new.self c.step.result _ c.step.ensures (search rules) (search rules)
 
-pub returns-in-Reach : goal.returns-in-Reach
-returns-in-Reach g c =
-    let i = c.loop-s.invariant in
-    let t = c.in-Err.ensures in
-    record {
-      same = t.same ∙ i.0;
-      taken = record {
-        told = take_off_fails g.C.Carrier.frame g.C.Carrier.at c.loop-s.carrier c.step.new.self (g.C.Carrier.frame c.args.carrier.now) (letters_of c.args.view) c.loop-s.letters c.loop-s.n (omega arith) i.0 i.1 i.2 i.3 c.in-Some.s c.in-Some.ensures
-            c.in-Err.fault c.in-Reach.is t.took;
-      };
-    }
-
-pub returns : goal.returns
-returns g c =
-    let i = c.loop-s.invariant in
-    record {
-      same = i.0;
-      taken = record { told = take_off_done g.C.Carrier.frame g.C.Carrier.at c.loop-s.carrier c.loop-s.carrier (g.C.Carrier.frame c.args.carrier.now) (letters_of c.args.view) c.loop-s.letters c.loop-s.n (omega arith) i.0 i.1 i.2 i.3 c.in_default.ensures };
-    }
+pub returns-clause-read : goal.returns-clause-read
+returns-clause-read g c = record {
+  told = take_done g.C.Carrier.frame g.C.Carrier.at (g.C.Carrier.frame c.args.carrier.now) (letters_of c.args.word) c.loop-s.carrier c.loop-s.letters.items (g.met.C.Carrier.laws c.loop-s.carrier) c.loop-s.invariant c.requires.entered c.in_default.ensures;
+}
