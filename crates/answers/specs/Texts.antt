@@ -1,5 +1,6 @@
 -- The lines that the program prints.
-use Rattle.std.specs.Prelude.{◌≡◌, ℕ, Bool, true, false, List, [], ◌∷◌, ◌++◌, length, codes, decimal, Decides}
+use Rattle.std.specs.Prelude.{◌≡◌, ℕ, Bool, true, false, List, ◌++◌, length, codes, decimal, Decides}
+use Rattle.std.specs.List.{flat_map}
 use Rattle.refusals.specs.Layers.{layer_name}
 use Rattle.refusals.specs.declared.layer.Layer.{Layer}
 use Rattle.coxeter.specs.Groups.{Matrix, rank}
@@ -38,8 +39,7 @@ pub record DescentsAnswer (bits : ℕ) (text : List ℕ) : Type 0 where
 
 -- the letters of a word, each by its number: a digit, since there are at most 8
 abbrev pub letters_text : List ℕ → List ℕ
-letters_text [] = []
-letters_text (s ∷ w) = decimal s ++ letters_text w
+letters_text = flat_map decimal
 
 -- the line of a job that is answered by a form
 abbrev pub form_text : List ℕ → List ℕ → List ℕ

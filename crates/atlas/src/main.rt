@@ -2,19 +2,13 @@
 
 #![tactic(auto)]
 
-ghost use Rattle.std.specs.Prelude.{◌+◌, length};
-ghost use Rattle.coxeter.specs.Groups.{rank as rank_of};
-ghost use Rattle.coxeter.specs.Matrices.{matrix};
-ghost use Rattle.coxeter.specs.Pairs.{Path};
-ghost use Rattle.carriers.specs.Openings.{Carried, Opens};
-
-use answers::{group, refusal};
+use answers;
 use carriers::carrier::Carrier;
 use carriers::chamber::Chamber;
 use carriers::one_line::OneLine;
-use coxeter::group::Group;
 use jobs::answering::answer;
-use lines::located::{Located, at};
+use jobs::errors::JobError;
+use lines::located::Located;
 use lines::reader::{MOST_BYTES, Reader};
 use numbers::golden::Golden;
 use numbers::number::Number;
@@ -26,75 +20,62 @@ use sheets::reading::sheet;
 use std::io;
 use std::io::{Read, Write};
 
-// Prints an answer.
-fn print(rt: &HostRuntime, answer: String) -> io::Result<()> {
-    rt.stdout().write_all(answer.as_bytes())
+// A run of the program: the system, and what is left of the input.
+#[derive(Drop)]
+struct Run<'a> {
+    rt: HostRuntime,
+    reader: Reader<'a>,
 }
 
-// Prints a refusal.
-fn refuse<F: Refusal>(rt: &HostRuntime, refused: &Located<F>) -> io::Result<()> {
-    print(rt, refusal(rt.alloc(), refused)?)
-}
+impl Run<'_> {
+    // Prints an answer.
+    fn print(&self, answer: String) -> io::Result<()> {
+        self.rt.stdout().write_all(answer.as_bytes())
+    }
 
-// Answers the lines behind the kind's.
-fn jobs<C: Carrier>(rt: &HostRuntime, reader: &mut Reader, carrier: &mut C) -> io::Result<()> {
-    while !reader.is_done() {
-        let line = match reader.next() {
-            Ok(line) => line,
-            Err(unfinished) => return refuse(rt, &unfinished),
-        };
-        match at(line.number, answer(rt.alloc(), carrier, line.bytes)?) {
-            Ok(text) => print(rt, text)?,
-            Err(refused) => refuse(rt, &refused)?,
+    // Prints a refusal.
+    fn refuse<F: Refusal>(&self, refused: &Located<F>) -> io::Result<()> {
+        self.print(answers::refusal(self.rt.alloc(), refused)?)
+    }
+
+    // Answers the lines behind the kind's.
+    fn jobs<C: Carrier>(&mut self, carrier: &mut C) -> io::Result<()> {
+        while !self.reader.is_done() {
+            let line = match self.reader.next() {
+                Ok(line) => line,
+                Err(unfinished) => return self.refuse(&unfinished),
+            };
+            match answer(self.rt.alloc(), carrier, line.bytes) {
+                Ok(text) => self.print(text)?,
+                Err(JobError::Refused(fault)) => self.refuse(&Located {
+                    line: line.number,
+                    fault,
+                })?,
+                Err(JobError::Memory(error)) => return Err(io::Error::from(error)),
+            }
         }
+        Ok(())
     }
-    Ok(())
-}
 
-// Answers the jobs on a chamber over the row.
-fn on_chamber<N: Number>(
-    rt: &HostRuntime,
-    reader: &mut Reader,
-    group: Group,
-    row: &mut [N],
-) -> io::Result<()>
-    requires { Opens (rank_of (matrix group)) (length row.old) (Carried N.Number.fits (matrix group)) }
-{
-    match Chamber::check(&group, row) {
-        Ok(()) => jobs(rt, reader, &mut Chamber::make(group, row)),
-        Err(_) => unreachable(),
-    }
-}
-
-// Answers the jobs in one-line notation over the row.
-fn on_line(rt: &HostRuntime, reader: &mut Reader, group: Group, row: &mut [u8]) -> io::Result<()>
-    requires { Opens (rank_of (matrix group) + 1) (length row.old) (Path (matrix group)) }
-{
-    match OneLine::check(&group, row) {
-        Ok(()) => jobs(rt, reader, &mut OneLine::make(group, row)),
-        Err(_) => unreachable(),
-    }
-}
-
-// Answers the jobs behind a sheet, on the kind of carrier that it asks for.
-fn on_sheet(rt: &HostRuntime, reader: &mut Reader, sheet: Sheet) -> io::Result<()> {
-    let group = sheet.group();
-    match sheet.kind() {
-        Kind::Whole => on_chamber(rt, reader, group, &mut [Whole::one(); 8]),
-        Kind::Golden => on_chamber(rt, reader, group, &mut [Golden::one(); 8]),
-        Kind::Line => on_line(rt, reader, group, &mut [0; 9]),
+    // Answers the sheet, and the jobs behind it on the kind of carrier that it asks for.
+    fn sheet(&mut self, sheet: Sheet) -> io::Result<()> {
+        let group = sheet.group();
+        self.print(answers::group(self.rt.alloc(), &group)?)?;
+        match sheet.kind() {
+            Kind::Whole => self.jobs(&mut Chamber::make(group, &mut [Whole::one(); 8])),
+            Kind::Golden => self.jobs(&mut Chamber::make(group, &mut [Golden::one(); 8])),
+            Kind::Line => self.jobs(&mut OneLine::make(group, &mut [0; 9])),
+        }
     }
 }
 
 fn main(rt: HostRuntime) -> io::Result<()> {
     let mut input = Vec::new(rt.alloc());
     let _ = rt.stdin().take(MOST_BYTES as u64).read_to_end(&mut input)?;
-    let mut reader = Reader::new(input.as_slice());
-    match sheet(&mut reader) {
-        Ok(sheet) => {
-            print(&rt, group(rt.alloc(), &sheet.group())?)?;
-            on_sheet(&rt, &mut reader, sheet)
-        }
-        Err(refused) => refuse(&rt, &refused),
+    let reader = Reader::new(input.as_slice());
+    let mut run = Run { rt, reader };
+    match sheet(&mut run.reader) {
+        Ok(sheet) => run.sheet(sheet),
+        Err(refused) => run.refuse(&refused),
     }
 }

@@ -2,6 +2,7 @@
 use Rattle.std.specs.Prelude.{◌≡◌, ℕ, ◌⊎◌, List, ◌++◌, map, reverse, Ok, Err, codes, Result, String}
 use Rattle.std.specs.Borrow.{Bor}
 use Rattle.carriers.specs.Frames.{Frame}
+use Rattle.carriers.specs.Carriers.{BroughtHome}
 use Rattle.lines.specs.Letters.{letter_of}
 use Rattle.lines.specs.Lines.{Reads, NoReading}
 use Rattle.lines.specs.declared.faults.LineFault.TheVariants.{Unexpected}
@@ -14,6 +15,8 @@ use Rattle.coxeter.specs.Moves.{Word}
 use Rattle.jobs.specs.WordJobs.{DescentsJob, FormJob, NumberJob}
 use Rattle.jobs.specs.declared.faults.JobFault.{JobFault}
 use Rattle.jobs.specs.declared.faults.JobFault.TheVariants as fault
+use Rattle.jobs.specs.declared.errors.JobError.{JobError}
+use Rattle.jobs.specs.declared.errors.JobError.TheVariants.{Refused, Memory}
 
 -- the letters of a word that stands in the input
 abbrev pub letters : Bor (List ℕ) → Word
@@ -29,6 +32,23 @@ pub record ByWord {Z : Type 0} (P : Result (String Z) WordFault → Type 0) (r :
   pub answer : Result (String Z) WordFault
   pub told : P answer
   pub same : r ≡ as_job answer
+
+-- P holds of the answer, a text or a fault; nothing is said where memory ran out
+abbrev pub Answered : {S : Type 0} → (Result S JobFault → Type 0) → Result S JobError → Type 0
+Answered P (Ok s) = P (Ok s)
+Answered P (Err (Refused e)) = P (Err e)
+Answered P (Err (Memory e)) = Unit {0}
+
+-- r is the answer of a job over words, as P says of the call, or memory ran out
+abbrev pub AnsweredByWord : {Z : Type 0} → (Result (String Z) WordFault → Type 0) → Result (String Z) JobError → Type 0
+AnsweredByWord P r = Answered (ByWord P) r
+
+-- how a job with the answer r leaves the carrier x as y: brought home by the call over its word, untouched where its line is refused; where memory ran out, one of both
+abbrev pub Leaves : {X S : Type 0} → (X → Frame) → (X → Word → Type 0) → X → X → Result S JobError → Type 0
+Leaves frame at x y (Ok s) = BroughtHome frame at x y
+Leaves frame at x y (Err (Refused (fault.Word e))) = BroughtHome frame at x y
+Leaves frame at x y (Err (Refused (fault.Line e))) = y ≡ x
+Leaves frame at x y (Err (Memory e)) = BroughtHome frame at x y ⊎ (y ≡ x)
 
 -- r is the answer to a job; one whose call is not there yet is refused as a line that is not due
 abbrev pub JobAnswer : {Z : Type 0} → Frame → Job → Result (String Z) JobFault → Type 0

@@ -1,5 +1,6 @@
 -- The number, the place and the layer of a job's fault: those of the fault that it holds.
 use Rattle.std.specs.Prelude.{ℕ}
+use Rattle.refusals.specs.declared.report.Report.{Report}
 use Rattle.refusals.specs.declared.layer.Layer.{Layer}
 use Rattle.refusals.specs.declared.layer.Layer.TheVariants as layer
 use Rattle.lines.specs.Faults.{line_number, line_place}
@@ -21,3 +22,7 @@ job_place (Word f) = word_place f
 abbrev pub job_layer : JobFault → Layer
 job_layer (Line f) = layer.Line
 job_layer (Word f) = layer.Word
+
+-- what is reported of the fault
+abbrev pub job_report : JobFault → Report
+job_report f = record { number = job_number f; place = job_place f; layer = job_layer f }

@@ -1,11 +1,11 @@
 // What a job is refused for.
 ghost use Rattle.std.specs.Prelude.{◌≡◌};
 ghost use Rattle.jobs.specs.declared.faults.JobFault.{JobFault};
-ghost use Rattle.jobs.specs.Faults.{job_number, job_place, job_layer};
+ghost use Rattle.jobs.specs.Faults.{job_report};
 
 use lines::faults::LineFault;
-use refusals::layer::Layer;
 use refusals::refusal::Refusal;
+use refusals::report::Report;
 use words::faults::WordFault;
 
 /// The fault of a job: that of its line, or of its word.
@@ -32,30 +32,12 @@ impl From<WordFault> for JobFault {
 }
 
 impl Refusal for JobFault {
-    ghost numbered = { job_number };
+    ghost reported = { job_report };
 
-    ghost placed = { job_place };
-
-    ghost arisen = { job_layer };
-
-    fn number(&self) -> u8 {
+    fn report(&self) -> Report {
         match self {
-            JobFault::Line(fault) => fault.number(),
-            JobFault::Word(fault) => fault.number(),
-        }
-    }
-
-    fn place(&self) -> usize {
-        match self {
-            JobFault::Line(fault) => fault.place(),
-            JobFault::Word(fault) => fault.place(),
-        }
-    }
-
-    fn layer(&self) -> Layer {
-        match self {
-            JobFault::Line(fault) => fault.layer(),
-            JobFault::Word(fault) => fault.layer(),
+            JobFault::Line(fault) => fault.report(),
+            JobFault::Word(fault) => fault.report(),
         }
     }
 }

@@ -9,9 +9,5 @@ use std::alloc::{AllocError, Global};
 pub fn letters(heap: Global, bytes: &[u8]) -> Result<Vec<u8>, AllocError>
     ensures { IfOk result (λ v. v.items ≡ map letter_of bytes.now) }
 {
-    let mut word = Vec::new(heap);
-    for byte in bytes {
-        word.push(letter(*byte))?;
-    }
-    Ok(word)
+    bytes.iter().map(|byte| letter(*byte)).collect(heap)
 }

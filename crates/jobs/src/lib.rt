@@ -3,6 +3,7 @@
 #![tactic(auto)]
 
 pub mod answering;
+pub mod errors;
 pub mod faults;
 pub mod letters;
 pub mod word_jobs;

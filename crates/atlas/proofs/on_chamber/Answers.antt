@@ -1,5 +1,0 @@
-use Rattle.atlas.proofs.SheetCarriers.{not_refused}
-use Rattle.atlas.proofs.on_chamber.Goals as goal
-
-pub unreachable-requires : goal.unreachable-requires
-unreachable-requires g c = not_refused c.in-Err.field-0 c.requires c.in-Err.ensures
