@@ -1,10 +1,9 @@
 -- A carrier's way down a form, by taking off the least descending letter.
-use Rattle.std.proofs.Common.{◌≡◌, ℕ, ◌+◌, ◌-◌, ◌<◌, ◌≤◌, Bool, true, false, [], ◌∷◌, ◌++◌, reverse, length, take, Some, None, Ok, Err, Option, Result, sym, refl, ap, ◌∙◌, subst, inr, ⊎_elim, append_assoc, append-nil, arith, length-append, take_all, take_at}
+use Rattle.std.proofs.Common.{◌≡◌, ℕ, ◌+◌, ◌-◌, ◌<◌, ◌≤◌, true, false, [], ◌∷◌, ◌++◌, reverse, length, take, Some, None, Ok, Err, Option, Result, sym, refl, ap, ◌∙◌, subst, inr, ⊎_elim, append_assoc, append-nil, arith, length-append, take_all, take_at}
 use Rattle.std.specs.Option.{MatchOption}
 use Rattle.std.specs.Result.{is_ok}
 use Rattle.std.proofs.lemmas.List.{reverse-append, length-reverse}
 use Rattle.std.proofs.lemmas.Bool.{cases_eq, cases_Bool, both_ways}
-use Rattle.arrayvec.specs.ArrayVec.{ArrayVec}
 use Rattle.coxeter.specs.Numbers.{negative}
 use Rattle.coxeter.specs.Groups.{Matrix, Letter, rank}
 use Rattle.coxeter.specs.Moves.{Word, Letters, Joined}
@@ -176,12 +175,12 @@ module _ {X : Type 0} (frame : X → Frame) (at : X → Word → Type 0) (f : Fr
       take_more y (Err e) u c o d = absurd (both_ways false refl o)
 
       -- a step by a letter of the group is refused by the reach alone
-      pub take_fails : Entered f w → (y : X) (r : Result (Unit {0}) StepFault) (q : Result (ArrayVec ℕ) WordFault) → Stepped frame at x y s r → is_ok r ≡ false → q ≡ Err (Reach (length w + length t)) → Read f w q
-      take_fails n y (Ok _) q c o e = absurd (both_ways true o refl)
-      take_fails n y (Err NoLetter) q c o e = absurd (c.took.1 (subst (λ (h : Frame). Letter h.group s) (sym now.same) least.letter))
-      take_fails n y (Err OutOfReach) q c o e =
+      pub take_fails : Entered f w → (y : X) (r : Result (Unit {0}) StepFault) (more : Word) (q : Result (Unit {0}) WordFault) → Stepped frame at x y s r → is_ok r ≡ false → q ≡ Err (Reach (length w + length t)) → Read f w more q
+      take_fails n y (Ok _) more q c o e = absurd (both_ways true o refl)
+      take_fails n y (Err NoLetter) more q c o e = absurd (c.took.1 (subst (λ (h : Frame). Letter h.group s) (sym now.same) least.letter))
+      take_fails n y (Err OutOfReach) more q c o e =
           let i : f.reach ((w ++ t) ++ (s ∷ [])) ≡ false = subst (λ (h : Frame). h.reach ((w ++ t) ++ (s ∷ [])) ≡ false) now.same (c.took.2 (w ++ t) now.here) in
-          subst (λ z. Read f w z) (sym e) (record { told = inr (length t, refl, leave_fails f (at x) law w now.form t s now.here now.leaving least n now.formed.form i) })
+          subst (λ z. Read f w more z) (sym e) (record { told = inr (length t, refl, leave_fails f (at x) law w now.form t s now.here now.leaving least n now.formed.form i) })
 
     pub take_done : Entered f w → Found (frame x).group (at x) None → Passed f w (reverse t)
     take_done n found = leave_done f w now.form t n now.formed.form now.leaving (subst (λ (h : Frame). Bare h.group (w ++ t)) now.same (found.found (w ++ t) now.here))

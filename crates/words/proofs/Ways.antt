@@ -1,5 +1,5 @@
 -- A carrier's way through a word.
-use Rattle.std.proofs.Common.{◌≡◌, ℕ, zero, suc, ◌+◌, ◌<◌, ◌≤◌, ◌≢◌, ◌⊎◌, Bool, true, false, [], ◌∷◌, ◌++◌, length, get_or, take, drop, Some, None, Ok, Err, Option, Result, sym, refl, ap, ◌∙◌, subst, ⊎_elim, arith, take_all}
+use Rattle.std.proofs.Common.{◌≡◌, ℕ, zero, suc, ◌+◌, ◌<◌, ◌≤◌, ◌≢◌, ◌⊎◌, true, false, [], ◌∷◌, ◌++◌, length, get_or, take, drop, Some, None, Ok, Err, Option, Result, sym, refl, ap, ◌∙◌, subst, ⊎_elim, arith, take_all}
 use Rattle.std.specs.List.{AllWithin, HoldsAt}
 use Rattle.std.specs.Option.{MatchOption}
 use Rattle.std.specs.Result.{is_ok}
@@ -13,7 +13,7 @@ use Rattle.carriers.specs.declared.faults.StepFault.{StepFault}
 use Rattle.carriers.specs.declared.faults.StepFault.TheVariants.{Letter as NoLetter, Reach as OutOfReach}
 use Rattle.words.specs.declared.faults.WordFault.{WordFault}
 use Rattle.words.specs.declared.faults.WordFault.TheVariants.{Reach}
-use Rattle.words.specs.Outcomes.{Prefixes, Overstepped}
+use Rattle.words.specs.Outcomes.{Prefixes}
 use Rattle.words.specs.Stepping.{Outsides, Arrived}
 
 -- ---- letters

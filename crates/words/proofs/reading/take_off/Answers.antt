@@ -6,7 +6,7 @@ use Rattle.words.proofs.reading.take_off.Goals as goal
 use Rattle.words.proofs.reading.take_off.Goals.{In-Some}
 
 pub loop-s-init : goal.loop-s-init
-loop-s-init g c = take_none g.C.Carrier.frame g.C.Carrier.at (g.C.Carrier.frame c.args.carrier.now) (letters_of c.args.word) c.args.carrier.now _ (g.met.C.Carrier.laws c.args.carrier.now) refl c.requires.here c.new-letters.ensures
+loop-s-init g c = take_none g.C.Carrier.frame g.C.Carrier.at (g.C.Carrier.frame c.args.carrier.now) (letters_of c.args.word) c.args.carrier.now _ (g.met.C.Carrier.laws c.args.carrier.now) refl c.requires.here c.clear.ensures
 
 -- there is a letter to take off
 room : (g : Over) (c : In-Some g) → length c.loop-s.letters.items < length (letters_of c.args.word)
@@ -26,7 +26,7 @@ loop-s-preserved g c =
 pub returns-in_err-map_err-clause-read : goal.returns-in_err-map_err-clause-read
 returns-in_err-map_err-clause-read g c =
     take_fails g.C.Carrier.frame g.C.Carrier.at (g.C.Carrier.frame c.args.carrier.now) (letters_of c.args.word) c.loop-s.carrier c.loop-s.letters.items (g.met.C.Carrier.laws c.loop-s.carrier) c.loop-s.invariant c.in-Some.s c.in-Some.ensures
-    c.requires.entered c.step.new.self c.step.result _ c.step.ensures (search rules) (search rules)
+    c.requires.entered c.step.new.self c.step.result _ _ c.step.ensures (search rules) (search rules)
 
 pub returns-clause-read : goal.returns-clause-read
 returns-clause-read g c = record {

@@ -1,5 +1,4 @@
 use Rattle.std.proofs.Common.{rules, refl}
-use Rattle.std.specs.Iterator.Adapters.{enumerate_count}
 use Rattle.words.specs.Views.{letters_of}
 use Rattle.words.proofs.Ways.{pass_none, pass_on, pass_out, pass_done}
 use Rattle.words.proofs.stepping.step_through.Goals as goal
