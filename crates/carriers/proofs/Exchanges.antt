@@ -8,6 +8,7 @@ use Rattle.std.proofs.lemmas.List.{get_or-set_same, get_or-set_other, drop-set-l
 use Rattle.std.proofs.lemmas.Bool.{cases_eq, cases_lt, lt-ltb, le-ltb, cond-true, cond-false}
 use Rattle.std.proofs.lemmas.Bool.Decides.{nat_tests}
 use Rattle.std.proofs.lemmas.Int.{ints}
+use Rattle.std.specs.List.{SwappedAt}
 use Rattle.coxeter.specs.Numbers.{integer, minus, times, negative}
 use Rattle.coxeter.specs.Groups.{Matrix, Letter, rank}
 use Rattle.coxeter.specs.Moves.{Word}
@@ -16,7 +17,7 @@ use Rattle.coxeter.proofs.Exacts.{same_parts}
 use Rattle.coxeter.specs.Points.{stepped, coefficient, coefficient_of}
 use Rattle.carriers.specs.Rows.{Shows}
 use Rattle.carriers.proofs.Standing.{step_shows}
-use Rattle.carriers.specs.Lines.{gaps, exchanged, Arranged, Stands}
+use Rattle.carriers.specs.Lines.{gaps, Arranged, Stands}
 
 pub path_of : (g : Matrix) → ∥ Path g ∥₁ → Path g
 path_of g h = ∥∥₁_elim h (Π_prop λ s. Π_prop λ t. Π_prop λ i. Π_prop λ j. ℕ_set _ _) (λ x. x)
@@ -38,80 +39,67 @@ gap_by : (g : Matrix) (s a : ℕ) (r q : List ℕ) (c : ℤ) → coefficient g a
     → minus (gaps r a) (times (integer c) (gaps r s)) ≡ gaps q a → gaps q a ≡ stepped g s (gaps r) a
 gap_by g s a r q c e d = sym d ∙ ap (λ x. minus (gaps r a) (times x (gaps r s))) (sym e)
 
-module _ (g : Matrix) (h : Path g) (s : ℕ) (k : Letter g s) (r : List ℕ) (wide : s < length r) where
-  at_s : get_or (exchanged s r) s 0 ≡ get_or r (s - 1) 0
-  at_s = get_or-set_same (set r (s - 1) (get_or r s 0)) s (get_or r (s - 1) 0) 0 (rw length-set wide)
-
-  before_s : get_or (exchanged s r) (s - 1) 0 ≡ get_or r s 0
-  before_s =
-      let b = k.from_one in
-      get_or-set_other (set r (s - 1) (get_or r s 0)) s (s - 1) (get_or r (s - 1) 0) 0 (omega arith) ∙ get_or-set_same r (s - 1) (get_or r s 0) 0 (omega arith)
-
-  elsewhere : (i : ℕ) → i ≢ s → i ≢ s - 1 → get_or (exchanged s r) i 0 ≡ get_or r i 0
-  elsewhere i m n = get_or-set_other (set r (s - 1) (get_or r s 0)) s i (get_or r (s - 1) 0) 0 m ∙ get_or-set_other r (s - 1) i (get_or r s 0) 0 n
-
-  gap_here : (a : ℕ) → Letter g a → a ≡ s → gaps (exchanged s r) a ≡ stepped g s (gaps r) a
+-- q is the row r with the entries s and s + 1 exchanged
+module _ (g : Matrix) (h : Path g) (s : ℕ) (k : Letter g s) (r q : List ℕ) (swapped : SwappedAt r q (s - 1) s) where
+  gap_here : (a : ℕ) → Letter g a → a ≡ s → gaps q a ≡ stepped g s (gaps r) a
   gap_here a j e =
-      let p = at_s in let q = before_s in
-      let u : get_or (exchanged s r) a 0 ≡ get_or r (s - 1) 0 = ap (λ i. get_or (exchanged s r) i 0) e ∙ p in
-      let v : get_or (exchanged s r) (a - 1) 0 ≡ get_or r s 0 = ap (λ i. get_or (exchanged s r) (i - 1) 0) e ∙ q in
+      let u : get_or q a 0 ≡ get_or r (s - 1) 0 = ap (λ i. get_or q i 0) e ∙ swapped.1 0 in
+      let v : get_or q (a - 1) 0 ≡ get_or r s 0 = ap (λ i. get_or q (i - 1) 0) e ∙ swapped.0 0 in
       let x : get_or r a 0 ≡ get_or r s 0 = ap (λ i. get_or r i 0) e in
       let y : get_or r (a - 1) 0 ≡ get_or r (s - 1) 0 = ap (λ i. get_or r (i - 1) 0) e in
-      gap_by g s a r (exchanged s r) (pos 2) (path_coefficient g h a s j k ∙ ap (λ n. coefficient_of n (ltb a s)) (on_path a s e))
+      gap_by g s a r q (pos 2) (path_coefficient g h a s j k ∙ ap (λ n. coefficient_of n (ltb a s)) (on_path a s e))
       (same_parts (omega (arith, ints)) (omega (arith, ints)))
 
-  gap_after : (a : ℕ) → Letter g a → a ≡ s + 1 → gaps (exchanged s r) a ≡ stepped g s (gaps r) a
+  gap_after : (a : ℕ) → Letter g a → a ≡ s + 1 → gaps q a ≡ stepped g s (gaps r) a
   gap_after a j e =
       let b = k.from_one in
-      let p = at_s in
       let m : a - 1 ≡ s = omega arith in
-      let u : get_or (exchanged s r) a 0 ≡ get_or r a 0 = elsewhere a (omega arith) (omega arith) in
-      let v : get_or (exchanged s r) (a - 1) 0 ≡ get_or r (s - 1) 0 = ap (λ i. get_or (exchanged s r) i 0) m ∙ p in
+      let u : get_or q a 0 ≡ get_or r a 0 = swapped.2 a 0 (omega arith) (omega arith) in
+      let v : get_or q (a - 1) 0 ≡ get_or r (s - 1) 0 = ap (λ i. get_or q i 0) m ∙ swapped.1 0 in
       let y : get_or r (a - 1) 0 ≡ get_or r s 0 = ap (λ i. get_or r i 0) m in
-      gap_by g s a r (exchanged s r) (negsuc 0) (path_coefficient g h a s j k ∙ ap (λ n. coefficient_of n (ltb a s)) (by_path a s (inl e)))
+      gap_by g s a r q (negsuc 0) (path_coefficient g h a s j k ∙ ap (λ n. coefficient_of n (ltb a s)) (by_path a s (inl e)))
       (same_parts (omega (arith, ints)) (omega (arith, ints)))
 
-  gap_before : (a : ℕ) → Letter g a → s ≡ a + 1 → gaps (exchanged s r) a ≡ stepped g s (gaps r) a
+  gap_before : (a : ℕ) → Letter g a → s ≡ a + 1 → gaps q a ≡ stepped g s (gaps r) a
   gap_before a j e =
       let b = j.from_one in
-      let p = before_s in
       let m : a ≡ s - 1 = omega arith in
-      let u : get_or (exchanged s r) a 0 ≡ get_or r s 0 = ap (λ i. get_or (exchanged s r) i 0) m ∙ p in
-      let v : get_or (exchanged s r) (a - 1) 0 ≡ get_or r (a - 1) 0 = elsewhere (a - 1) (omega arith) (omega arith) in
+      let u : get_or q a 0 ≡ get_or r s 0 = ap (λ i. get_or q i 0) m ∙ swapped.0 0 in
+      let v : get_or q (a - 1) 0 ≡ get_or r (a - 1) 0 = swapped.2 (a - 1) 0 (omega arith) (omega arith) in
       let x : get_or r a 0 ≡ get_or r (s - 1) 0 = ap (λ i. get_or r i 0) m in
-      gap_by g s a r (exchanged s r) (negsuc 0) (path_coefficient g h a s j k ∙ ap (λ n. coefficient_of n (ltb a s)) (by_path a s (inr e)))
+      gap_by g s a r q (negsuc 0) (path_coefficient g h a s j k ∙ ap (λ n. coefficient_of n (ltb a s)) (by_path a s (inr e)))
       (same_parts (omega (arith, ints)) (omega (arith, ints)))
 
-  gap_far : (a : ℕ) → Letter g a → a ≢ s → a ≢ s + 1 → s ≢ a + 1 → gaps (exchanged s r) a ≡ stepped g s (gaps r) a
+  gap_far : (a : ℕ) → Letter g a → a ≢ s → a ≢ s + 1 → s ≢ a + 1 → gaps q a ≡ stepped g s (gaps r) a
   gap_far a j d e f =
       let b = j.from_one in let c = k.from_one in
-      let u : get_or (exchanged s r) a 0 ≡ get_or r a 0 = elsewhere a (omega arith) (omega arith) in
-      let v : get_or (exchanged s r) (a - 1) 0 ≡ get_or r (a - 1) 0 = elsewhere (a - 1) (omega arith) (omega arith) in
-      gap_by g s a r (exchanged s r) (pos 0) (path_coefficient g h a s j k ∙ ap (λ n. coefficient_of n (ltb a s)) (off_path a s d e f))
+      let u : get_or q a 0 ≡ get_or r a 0 = swapped.2 a 0 (omega arith) (omega arith) in
+      let v : get_or q (a - 1) 0 ≡ get_or r (a - 1) 0 = swapped.2 (a - 1) 0 (omega arith) (omega arith) in
+      gap_by g s a r q (pos 0) (path_coefficient g h a s j k ∙ ap (λ n. coefficient_of n (ltb a s)) (off_path a s d e f))
       (same_parts (omega (arith, ints)) (omega (arith, ints)))
 
-  pub gaps_stepped : (a : ℕ) → Letter g a → gaps (exchanged s r) a ≡ stepped g s (gaps r) a
+  pub gaps_stepped : (a : ℕ) → Letter g a → gaps q a ≡ stepped g s (gaps r) a
   gaps_stepped a j =
       ⊎_elim (gap_here a j) (λ d. ⊎_elim (gap_after a j) (λ e. ⊎_elim (gap_before a j) (λ f. gap_far a j d e f) (cases_eq s (a + 1))) (cases_eq a (s + 1))) (cases_eq a s)
 
-  pub arranged_exchanged : (n : ℕ) → s < n → Arranged n r → Arranged n (exchanged s r)
+  pub arranged_exchanged : (n : ℕ) → s < n → Arranged n r → Arranged n q
   arranged_exchanged n below h m i j = by (h m i j)
     where
-      by : (p : ℕ) × (p < n) × (get_or r p 0 ≡ m) → (p : ℕ) × (p < n) × (get_or (exchanged s r) p 0 ≡ m)
-      by (p, q, e) =
-          ⊎_elim (λ (d : p ≡ s). (s - 1, omega arith, before_s ∙ ap (λ x. get_or r x 0) (sym d) ∙ e))
-          (λ d. ⊎_elim (λ (f : p ≡ s - 1). (s, below, at_s ∙ ap (λ x. get_or r x 0) (sym f) ∙ e)) (λ f. (p, q, elsewhere p d f ∙ e)) (cases_eq p (s - 1))) (cases_eq p s)
+      by : (p : ℕ) × (p < n) × (get_or r p 0 ≡ m) → (p : ℕ) × (p < n) × (get_or q p 0 ≡ m)
+      by (p, b, e) =
+          ⊎_elim (λ (d : p ≡ s). (s - 1, omega arith, swapped.0 0 ∙ ap (λ x. get_or r x 0) (sym d) ∙ e))
+          (λ d. ⊎_elim (λ (f : p ≡ s - 1). (s, below, swapped.1 0 ∙ ap (λ x. get_or r x 0) (sym f) ∙ e)) (λ f. (p, b, swapped.2 p 0 f d ∙ e)) (cases_eq p (s - 1))) (cases_eq p s)
 
-  pub exchanged_beyond : (n : ℕ) → s < n → drop n (exchanged s r) ≡ drop n r
+  pub exchanged_beyond : (n : ℕ) → s < n → drop n q ≡ drop n r
   exchanged_beyond n below =
-      drop-set-lt n (set r (s - 1) (get_or r s 0)) s (get_or r (s - 1) 0) below ∙ drop-set-lt n r (s - 1) (get_or r s 0) (omega arith)
+      ap (drop n) (swapped.3 0) ∙ drop-set-lt n (set r (s - 1) (get_or r s 0)) s (get_or r (s - 1) 0) below ∙ drop-set-lt n r (s - 1) (get_or r s 0) (omega arith)
 
-  pub exchanged_stands : (w : Word) → Stands g r w → Stands g (exchanged s r) (w ++ (s ∷ []))
+  pub exchanged_stands : (w : Word) → Stands g r w → Stands g q (w ++ (s ∷ []))
   exchanged_stands w h =
       let b = k.to_rank in
       record {
         arranged = arranged_exchanged (rank g + 1) (omega arith) h.arranged;
-        shows = step_shows g s (gaps r) (gaps (exchanged s r)) w k gaps_stepped h.shows;
+        shows = step_shows g s (gaps r) (gaps q) w k gaps_stepped h.shows;
       }
 
 -- at home every gap is 1

@@ -1,4 +1,5 @@
 pub mod Values
+pub mod Made
 pub mod Exponents
 pub mod Standing
 pub mod Chambers

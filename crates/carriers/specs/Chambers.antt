@@ -14,8 +14,8 @@ chamber_frame fits x = fitting_frame fits (matrix x.group)
 
 -- it stands at the element of w: the row is the point of w
 abbrev pub chamber_at : {N : Type 0} → (N → Exact) → Chamber N → Word → Type 0
-chamber_at value x w = Shows (matrix x.group) (numbers (map value x.lent.row.now)) w
+chamber_at value x w = Shows (matrix x.group) (numbers (map value x.row.now)) w
 
 -- what stands in the row beyond the numbers of the letters
 abbrev pub chamber_beyond : {N : Type 0} → Chamber N → List N
-chamber_beyond x = drop (rank (matrix x.group)) x.lent.row.now
+chamber_beyond x = drop (rank (matrix x.group)) x.row.now

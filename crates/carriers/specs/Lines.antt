@@ -1,5 +1,5 @@
 -- One-line notation of a permutation: each letter exchanges two neighbours.
-use Rattle.std.specs.Prelude.{◌≡◌, ℕ, ◌+◌, ◌-◌, ◌<◌, ◌≤◌, List, pos, ◌-ℤ◌, slice_index, slice_set}
+use Rattle.std.specs.Prelude.{◌≡◌, ℕ, ◌+◌, ◌-◌, ◌<◌, ◌≤◌, List, pos, ◌-ℤ◌, slice_index}
 use Rattle.coxeter.specs.Numbers.{integer}
 use Rattle.coxeter.specs.Groups.{Matrix, rank}
 use Rattle.coxeter.specs.Moves.{Word}
@@ -9,10 +9,6 @@ use Rattle.carriers.specs.Rows.{Shows}
 -- the point that a row of entries shows: letter a has the difference of its entry and the next
 abbrev pub gaps : List ℕ → Point
 gaps row a = integer (pos (slice_index row a) -ℤ pos (slice_index row (a - 1)))
-
--- the row with the entries s and s + 1 exchanged, counted from 1
-abbrev pub exchanged : ℕ → List ℕ → List ℕ
-exchanged s r = slice_set (slice_set r (s - 1) (slice_index r s)) s (slice_index r (s - 1))
 
 -- the numbers 1 to n stand in the first n places, each in one
 abbrev pub Arranged : ℕ → List ℕ → Type 0

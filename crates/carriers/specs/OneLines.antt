@@ -14,8 +14,8 @@ line_frame x = full_frame (matrix x.group)
 
 -- it stands at the element of w: the row is the one-line notation of w
 abbrev pub line_at : OneLine → Word → Type 0
-line_at x w = Stands (matrix x.group) x.lent.row.now w
+line_at x w = Stands (matrix x.group) x.row.now w
 
 -- what stands in the row beyond the entries
 abbrev pub line_beyond : OneLine → List ℕ
-line_beyond x = drop (rank (matrix x.group) + 1) x.lent.row.now
+line_beyond x = drop (rank (matrix x.group) + 1) x.row.now

@@ -1,9 +1,11 @@
 -- A step of a point in a row, by a column of coefficients.
-use Rattle.std.specs.Prelude.{◌≡◌, ℕ, ◌<◌, Bool, false, List, slice_index_or}
+use Rattle.std.specs.Prelude.{◌≡◌, ℕ, ◌<◌, Bool, false, List, map, length, Result, MatchResult, slice_index_or}
 use Rattle.coxeter.specs.Numbers.{Exact, minus, times}
 use Rattle.numbers.specs.Coefficients.{worth, zero}
 use Rattle.numbers.specs.declared.coefficient.Coefficient.{Coefficient}
-use Rattle.carriers.specs.Rows.{nought}
+use Rattle.carriers.specs.declared.faults.StepFault.{StepFault}
+use Rattle.carriers.specs.declared.faults.StepFault.TheVariants.{Reach}
+use Rattle.carriers.specs.Rows.{nought, numbers}
 
 -- the number at index i of the row l, after a step by a letter with this column and the number x
 abbrev pub taken_off : List Coefficient → Exact → List Exact → ℕ → Exact
@@ -18,3 +20,9 @@ pub record Stuck (fits : Exact → Bool) (n : ℕ) (column : List Coefficient) (
   pub at : ℕ
   pub below : at < n
   pub misfit : fits (taken_off column x l at) ≡ false
+
+-- what a row l answers to a step by the letter s with this column, and the row m that it is then
+abbrev pub Advanced : {N : Type 0} → (N → Exact) → (Exact → Bool) → List Coefficient → ℕ → List N → List N → Result (Unit {0}) StepFault → Type 0
+Advanced value fits column s l m r =
+    MatchResult r (λ u. Moved (length l) column (numbers (map value l) s) (map value l) (map value m))
+    (λ fault. (fault ≡ Reach) × (m ≡ l) × Stuck fits (length l) column (numbers (map value l) s) (map value l))

@@ -8,7 +8,6 @@ ghost use Rattle.coxeter.specs.Tables.{cut};
 ghost use Rattle.carriers.specs.Tables.{Table};
 
 use crate::coefficients::Coefficients;
-use crate::lent::Lent;
 use coxeter::group::Group;
 
 /// Keeps the number of letter a at index a − 1 of the row.
@@ -17,7 +16,7 @@ use coxeter::group::Group;
 pub struct Chamber<'a, N> {
     group: Group,
     coefficients: Coefficients,
-    lent: Lent<'a, N>,
-    ghost wide: { group.rank ≤ length lent.row.now },
+    row: &'a mut [N],
+    ghost wide: { group.rank ≤ length row.now },
     ghost table: { ∥ Table (cut group.rank group.rows) coefficients.columns ∥₁ },
 }

@@ -1,6 +1,7 @@
 //! The coefficients c(a,s) of a group, worked out once.
 
-ghost use Rattle.std.specs.Prelude.{ℕ, ◌+◌, ◌-◌, ◌<◌, ◌≤◌};
+ghost use Rattle.std.specs.Prelude.{◌+◌, ◌<◌};
+ghost use Rattle.coxeter.specs.Groups.{Letter};
 ghost use Rattle.coxeter.specs.Matrices.{matrix};
 ghost use Rattle.carriers.specs.Tables.{Column, Table};
 
@@ -9,15 +10,12 @@ use numbers::coefficient::Coefficient;
 
 /// The coefficients c(a,s) of every letter a.
 fn column_of(group: &Group, s: u8) -> [Coefficient; 8]
-    requires { (1 ≤ s) × (s ≤ group.now.rank) }
-    ensures { Column (matrix group.now) s result }
+    ensures { Letter (matrix group.now) s → Column (matrix group.now) s result }
 {
-    let mut column = [Coefficient::zero(); 8];
-    let n = group.rank();
-    for a in 0..n {
-        column[a as usize] = Coefficient::of_exponent(group.exponent(a + 1, s), a + 1 < s);
-    }
-    column
+    std::array::from_fn(|i| {
+        let a = i as u8 + 1;
+        Coefficient::of_exponent(group.exponent(a, s), a < s)
+    })
 }
 
 /// The coefficients of a group: c(a,s) stands at columns[s − 1][a − 1].
@@ -31,11 +29,12 @@ impl Coefficients {
     pub(crate) fn of(group: &Group) -> Coefficients
         ensures { Table (matrix group.now) result.columns }
     {
-        let mut columns = [[Coefficient::zero(); 8]; 8];
-        let n = group.rank();
-        for s in 0..n {
-            columns[s as usize] = column_of(group, s + 1);
-        }
+        let columns = std::array::from_fn(
+            |i|
+                requires { i < 8 }
+                ensures { Letter (matrix group.entry.now) (i + 1) → Column (matrix group.entry.now) (i + 1) result }
+            { column_of(group, i as u8 + 1) },
+        );
         Coefficients { columns }
     }
 }

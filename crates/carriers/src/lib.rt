@@ -7,6 +7,6 @@ pub mod chamber;
 mod coefficients;
 mod entries;
 pub mod faults;
-mod lent;
 pub mod one_line;
+mod opening;
 mod point;

@@ -7,7 +7,6 @@ ghost use Rattle.std.specs.Prelude.{◌<◌, length};
 ghost use Rattle.coxeter.specs.Tables.{cut};
 ghost use Rattle.coxeter.specs.Pairs.{Path};
 
-use crate::entries::Entries;
 use coxeter::group::Group;
 
 /// Keeps a permutation of 1 to rank + 1: what i goes to stands at index i − 1 of the row.
@@ -15,7 +14,7 @@ use coxeter::group::Group;
 #[derive(Drop)]
 pub struct OneLine<'a> {
     group: Group,
-    lent: Entries<'a>,
-    ghost wide: { group.rank < length lent.row.now },
+    row: &'a mut [u8],
+    ghost wide: { group.rank < length row.now },
     ghost path: { ∥ Path (cut group.rank group.rows) ∥₁ },
 }

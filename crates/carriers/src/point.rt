@@ -1,22 +1,22 @@
 //! A point in a lent row: its start, its step and the sign of a number, for every kind of number.
 
-ghost use Rattle.std.specs.Prelude.{◌≡◌, ℕ, ◌+◌, ◌-◌, ◌<◌, ◌≤◌, map, length, drop, pos, MatchBool, slice_index_or};
+ghost use Rattle.std.specs.Prelude.{◌≡◌, ℕ, ◌<◌, ◌≤◌, map, length, pos, slice_index_or};
 ghost use Rattle.coxeter.specs.Numbers.{integer, negative};
 ghost use Rattle.carriers.specs.Rows.{nought, numbers};
-ghost use Rattle.carriers.specs.Steps.{Moved, Stuck};
+ghost use Rattle.carriers.specs.Steps.{Advanced};
 
+use crate::faults::StepFault;
 use numbers::coefficient::Coefficient;
 use numbers::number::Number;
 
-/// Makes the first n numbers 1; what stands beyond them stays.
-pub(crate) fn set_start<N: Number>(row: &mut [N], n: u8)
-    requires { n ≤ length row.old }
-    ensures ones { (i : ℕ) → i < n → slice_index_or (map N.Number.value row.new) i nought ≡ integer (pos 1) }
-    ensures beyond { drop n row.new ≡ drop n row.old }
+/// Makes every number 1.
+pub(crate) fn set_start<N: Number>(row: &mut [N])
+    ensures { (i : ℕ) → i < length row.old → slice_index_or (map N.Number.value row.new) i nought ≡ integer (pos 1) }
 {
     let one = N::one();
-    for i in 0..n {
-        row[i as usize] = one;
+    // Not `fill`: it asks that a clone cannot fail, which `Copy` does not say of a kind of number.
+    for x in row.iter_mut() {
+        *x = one;
     }
 }
 
@@ -25,29 +25,27 @@ pub(crate) fn is_negative_at<N: Number>(row: &[N], s: u8) -> bool
     requires { (1 ≤ s) × (s ≤ length row.now) }
     ensures { result ≡ negative (numbers (map N.Number.value row.now) s) }
 {
-    let x = row[s as usize - 1];
-    x.is_negative()
+    row[s as usize - 1].is_negative()
 }
 
-/// Takes the first n numbers to the point after the letter s, whose column this is, unless one of them does not fit.
+/// Takes a row to the point after the letter s, whose column this is, unless a number does not fit.
 /// All of them are tested before one is written.
-pub(crate) fn step_point<N: Number>(row: &mut [N], n: u8, column: &[Coefficient; 8], s: u8) -> bool
-    requires { (1 ≤ s) × ((s ≤ n) × ((n ≤ 8) × (n ≤ length row.old))) }
-    ensures beyond { drop n row.new ≡ drop n row.old }
-    ensures moved { MatchBool result
-        (Moved n column.now (numbers (map N.Number.value row.old) s) (map N.Number.value row.old) (map N.Number.value row.new))
-        ((row.new ≡ row.old) × Stuck N.Number.fits n column.now (numbers (map N.Number.value row.old) s) (map N.Number.value row.old)) }
+pub(crate) fn step_point<N: Number>(
+    row: &mut [N],
+    column: &[Coefficient; 8],
+    s: u8,
+) -> Result<(), StepFault>
+    requires { (1 ≤ s) × (s ≤ length row.old) × (length row.old ≤ 8) }
+    ensures { Advanced N.Number.value N.Number.fits column.now s row.old row.new result }
 {
-    let x = row[s as usize - 1];
-    let mut fresh = [x; 8];
-    for i in 0..n {
-        match row[i as usize].minus_multiple(column[i as usize], x) {
-            Some(y) => fresh[i as usize] = y,
-            None => return false,
-        }
+    let by = row[s as usize - 1];
+    let mut fresh = [by; 8];
+    for (i, x) in row.iter().enumerate() {
+        fresh[i] = x.minus_multiple(column[i], by).ok_or(StepFault::Reach)?;
     }
-    for k in 0..n {
-        row[k as usize] = fresh[k as usize];
+    // `copy_from_slice` would lend `fresh` as a slice, which a generic array cannot be without a proof that the type is small.
+    for (k, x) in row.iter_mut().enumerate() {
+        *x = fresh[k];
     }
-    true
+    Ok(())
 }

@@ -8,6 +8,7 @@ ghost use Rattle.carriers.specs.Chambers.{chamber_frame, chamber_at, chamber_bey
 use crate::carrier::Carrier;
 use crate::chamber::Chamber;
 use crate::faults::StepFault;
+use crate::point::{is_negative_at, set_start, step_point};
 use numbers::number::Number;
 
 impl<'a, N: Number> Carrier for Chamber<'a, N> {
@@ -15,7 +16,7 @@ impl<'a, N: Number> Carrier for Chamber<'a, N> {
 
     ghost at = { chamber_at N.Number.value };
 
-    ghost laws = { λ c. chamber_laws N.Number.value c.group c.lent.row.now c.wide N.Number.fits N.Number.unit N.Number.within };
+    ghost laws = { λ c. chamber_laws N.Number.value c.group c.row.now c.wide N.Number.fits N.Number.unit N.Number.within };
 
     fn rank(&self) -> u8 {
         self.group.rank()
@@ -26,33 +27,26 @@ impl<'a, N: Number> Carrier for Chamber<'a, N> {
     }
 
     fn descends(&self, s: u8) -> bool {
-        if s == 0 || s > self.group.rank() {
-            return false;
-        }
-        self.lent.is_negative_at(s)
+        self.group.has_letter(s) && is_negative_at(self.row, s)
     }
 
     fn home(&mut self)
         ensures home { BroughtHome (chamber_frame N.Number.fits) (chamber_at N.Number.value) self.old self.new }
         ensures beyond { chamber_beyond self.new ≡ chamber_beyond self.old }
     {
-        let n = self.group.rank();
-        self.lent.set_start(n);
+        let n = self.group.rank() as usize;
+        set_start(&mut self.row[..n]);
     }
 
     fn step(&mut self, s: u8) -> Result<(), StepFault>
         ensures told { Stepped (chamber_frame N.Number.fits) (chamber_at N.Number.value) self.old self.new s result }
         ensures beyond { chamber_beyond self.new ≡ chamber_beyond self.old }
     {
-        let n = self.group.rank();
-        if s == 0 || s > n {
+        if !self.group.has_letter(s) {
             return Err(StepFault::Letter);
         }
+        let n = self.group.rank() as usize;
         let column = self.coefficients.columns[s as usize - 1];
-        if self.lent.step_point(n, &column, s) {
-            Ok(())
-        } else {
-            Err(StepFault::Reach)
-        }
+        step_point(&mut self.row[..n], &column, s)
     }
 }

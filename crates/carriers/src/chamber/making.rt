@@ -8,11 +8,11 @@ ghost use Rattle.carriers.specs.Rows.{fitting_frame, AllFit};
 ghost use Rattle.carriers.specs.Openings.{Carried, Opens, Checked};
 ghost use Rattle.carriers.specs.Chambers.{chamber_frame, chamber_at, chamber_beyond};
 
+use crate::carrier::Carrier;
 use crate::chamber::Chamber;
 use crate::coefficients::Coefficients;
 use crate::faults::OpenFault;
-use crate::lent::Lent;
-use crate::point::set_start;
+use crate::opening::opening;
 use coxeter::group::Group;
 use numbers::number::Number;
 
@@ -21,16 +21,11 @@ impl<'a, N: Number> Chamber<'a, N> {
     pub fn check(group: &Group, row: &[N]) -> Result<(), OpenFault>
         ensures { Checked (rank_of (matrix group.now)) (length row.now) (Carried N.Number.fits (matrix group.now)) result }
     {
-        if row.len() < group.rank() as usize {
-            return Err(OpenFault::Short);
-        }
-        if N::holds_golden() {
-            return Ok(());
-        }
-        if group.without_five() {
-            return Ok(());
-        }
-        Err(OpenFault::Kind)
+        opening(
+            row.len(),
+            group.rank() as usize,
+            N::holds_golden() || group.without_five(),
+        )
     }
 
     /// A chamber at home, behind an accepted check.
@@ -41,13 +36,13 @@ impl<'a, N: Number> Chamber<'a, N> {
         ensures reach { (w : Word) → Decides ((chamber_frame N.Number.fits result).reach w) (AllFit N.Number.fits (matrix group) w) }
         ensures beyond { chamber_beyond result ≡ drop (rank_of (matrix group)) row.old }
     {
-        let n = group.rank();
         let coefficients = Coefficients::of(&group);
-        set_start(row, n);
-        Chamber {
+        let mut chamber = Chamber {
             group,
             coefficients,
-            lent: Lent { row },
-        }
+            row,
+        };
+        chamber.home();
+        chamber
     }
 }

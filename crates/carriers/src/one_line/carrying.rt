@@ -6,6 +6,7 @@ ghost use Rattle.carriers.specs.CarrierLaws.{line_laws};
 ghost use Rattle.carriers.specs.OneLines.{line_frame, line_at, line_beyond};
 
 use crate::carrier::Carrier;
+use crate::entries::set_rising;
 use crate::faults::StepFault;
 use crate::one_line::OneLine;
 
@@ -14,7 +15,7 @@ impl<'a> Carrier for OneLine<'a> {
 
     ghost at = { line_at };
 
-    ghost laws = { λ c. line_laws c.group c.lent.row.now };
+    ghost laws = { λ c. line_laws c.group c.row.now };
 
     fn rank(&self) -> u8 {
         self.group.rank()
@@ -25,29 +26,26 @@ impl<'a> Carrier for OneLine<'a> {
     }
 
     fn descends(&self, s: u8) -> bool {
-        if s == 0 || s > self.group.rank() {
-            return false;
-        }
-        self.lent.is_inverted(s)
+        self.group.has_letter(s) && self.row[s as usize] < self.row[s as usize - 1]
     }
 
     fn home(&mut self)
         ensures home { BroughtHome line_frame line_at self.old self.new }
         ensures beyond { line_beyond self.new ≡ line_beyond self.old }
     {
-        let n = self.group.rank();
-        self.lent.set_rising(n);
+        let n = self.group.rank() as usize;
+        set_rising(&mut self.row[..n + 1]);
     }
 
     fn step(&mut self, s: u8) -> Result<(), StepFault>
         ensures told { Stepped line_frame line_at self.old self.new s result }
         ensures beyond { line_beyond self.new ≡ line_beyond self.old }
     {
-        let n = self.group.rank();
-        if s == 0 || s > n {
+        if !self.group.has_letter(s) {
             return Err(StepFault::Letter);
         }
-        self.lent.exchange(s);
+        let s = s as usize;
+        self.row.swap(s - 1, s);
         Ok(())
     }
 }

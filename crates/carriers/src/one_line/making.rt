@@ -9,9 +9,10 @@ ghost use Rattle.carriers.specs.Rows.{full_frame};
 ghost use Rattle.carriers.specs.Openings.{Opens, Checked};
 ghost use Rattle.carriers.specs.OneLines.{line_frame, line_at, line_beyond};
 
-use crate::entries::{Entries, set_rising};
+use crate::carrier::Carrier;
 use crate::faults::OpenFault;
 use crate::one_line::OneLine;
+use crate::opening::opening;
 use coxeter::group::Group;
 
 impl<'a> OneLine<'a> {
@@ -19,14 +20,7 @@ impl<'a> OneLine<'a> {
     pub fn check(group: &Group, row: &[u8]) -> Result<(), OpenFault>
         ensures { Checked (rank_of (matrix group.now) + 1) (length row.now) (Path (matrix group.now)) result }
     {
-        if row.len() < group.rank() as usize + 1 {
-            return Err(OpenFault::Short);
-        }
-        if group.is_path() {
-            Ok(())
-        } else {
-            Err(OpenFault::Kind)
-        }
+        opening(row.len(), group.rank() as usize + 1, group.is_path())
     }
 
     /// One-line notation at home, behind an accepted check.
@@ -37,11 +31,8 @@ impl<'a> OneLine<'a> {
         ensures reach { (w : Word) → Decides ((line_frame result).reach w) (Letters (matrix group) w) }
         ensures beyond { line_beyond result ≡ drop (rank_of (matrix group) + 1) row.old }
     {
-        let n = group.rank();
-        set_rising(row, n);
-        OneLine {
-            group,
-            lent: Entries { row },
-        }
+        let mut line = OneLine { group, row };
+        line.home();
+        line
     }
 }

@@ -1,24 +1,23 @@
-use Rattle.std.proofs.Common.{◌≡◌, ℕ, ◌+◌, ◌-◌, ◌≢◌, ap, ◌∙◌, arith, length-set, below_more}
-use Rattle.std.proofs.lemmas.List.{get_or-set_same, get_or-set_other}
-use Rattle.coxeter.specs.Points.{coefficient}
+use Rattle.std.proofs.Common.{◌≡◌, ℕ, ◌+◌, ◌-◌, ltb, ap, ◌∙◌, rules, arith}
+use Rattle.coxeter.specs.Numbers.{Exact}
+use Rattle.coxeter.specs.Groups.{answered_exponent}
+use Rattle.coxeter.specs.Points.{coefficient_of}
 use Rattle.coxeter.specs.Matrices.{matrix}
-use Rattle.coxeter.proofs.Matrices.{cut_rank}
 use Rattle.numbers.specs.Coefficients.{worth, zero}
+use Rattle.carriers.specs.CarrierLaws.{matrix_rank}
 use Rattle.carriers.proofs.Exponents.{coefficient_answered}
+use Rattle.carriers.proofs.Made.{made_at}
 use Rattle.carriers.proofs.coefficients.column_of.Goals as goal
 
-pub loop-a-preserved : goal.loop-a-preserved
-loop-a-preserved c = (
-  simp length-set c.loop-a.invariant.0,
-  below_more _ _
-      (λ k h. let ne : k ≢ c.loop-a.a = omega arith in ap worth (get_or-set_other c.loop-a.column c.loop-a.a k c.of_exponent.result zero ne) ∙ c.loop-a.invariant.1 k h)
-      (ap worth (get_or-set_same c.loop-a.column c.loop-a.a c.of_exponent.result zero (omega (arith, c.loop-a.invariant.0))) ∙ c.of_exponent.ensures ∙ coefficient_answered c.args.group.now.rank c.args.group.now.rows (c.loop-a.a + 1) c.args.s c.exponent.result (omega arith) (omega arith) (omega arith) (omega arith) c.exponent.ensures),
-)
-
 pub returns : goal.returns
-returns c = λ a l.
-    let b = l.from_one in let d = l.to_rank in
-    let r = cut_rank c.args.group.now.rank c.args.group.now.rows in
-    let n = c.rank-n.ensures.plain in
-    let q : a - 1 + 1 ≡ a = omega arith in
-    c.loop-a.invariant.1 (a - 1) (omega arith) ∙ ap (λ (k : ℕ). coefficient (matrix c.args.group.now) k c.args.s) q
+returns c k a l =
+    let group = c.args.group.now in
+    let m = matrix group in
+    let n = matrix_rank group in
+    let few = group.few in
+    let i = l.from_one in
+    let j = l.to_rank in
+    let told : ℕ → Exact = λ b. coefficient_of (answered_exponent m b c.args.s) (ltb b c.args.s) in
+    let e = made_at _ _ (λ i y. worth y ≡ told (i + 1)) 8 (λ i y q h t. search rules) c.from_fn.result c.from_fn.ensures.items (a - 1) (omega arith) zero in
+    let same : a - 1 + 1 ≡ a = omega arith in
+    e ∙ ap told same ∙ coefficient_answered m a c.args.s l k

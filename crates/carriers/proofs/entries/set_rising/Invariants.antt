@@ -1,5 +1,5 @@
-use Rattle.std.proofs.Common.{◌≡◌, ℕ, ◌+◌, ◌<◌, get_or, drop}
+use Rattle.std.proofs.Common.{◌≡◌, ℕ, ◌+◌, ◌<◌, get_or}
 use Rattle.carriers.proofs.entries.set_rising.Given as goal
 
 abbrev pub invariant-loop-i : goal.invariant-loop-i
-invariant-loop-i l = ((k : ℕ) → k < l.i → get_or l.row k 0 ≡ k + 1) × (drop (l.n + 1) l.row ≡ drop (l.n + 1) l.initial.row)
+invariant-loop-i l = (k : ℕ) → k < l.i → get_or l.row k 0 ≡ k + 1

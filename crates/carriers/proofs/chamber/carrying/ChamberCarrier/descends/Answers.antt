@@ -1,16 +1,21 @@
 use Rattle.std.proofs.Common.{map, arith}
-use Rattle.coxeter.specs.Groups.{Letter}
 use Rattle.coxeter.specs.Matrices.{matrix}
-use Rattle.coxeter.proofs.Matrices.{lawful_of, cut_letter}
+use Rattle.coxeter.proofs.Matrices.{lawful_of}
 use Rattle.carriers.specs.Rows.{numbers}
+use Rattle.carriers.specs.CarrierLaws.{matrix_rank}
 use Rattle.carriers.proofs.Standing.{descent_told}
 use Rattle.carriers.proofs.chamber.carrying.ChamberCarrier.descends.Goals as goal
 
-pub returns : goal.returns
-returns g c =
+pub is_negative_at-requires : goal.is_negative_at-requires
+is_negative_at-requires g c =
     let x = c.args.self.now in
-    let k : Letter (matrix x.group) c.args.s = cut_letter x.group.rank x.group.rows c.args.s (omega arith) (omega arith) in
-    record {
-      told = λ w h. descent_told (matrix x.group) (numbers (map g.N.Number.value x.lent.row.now)) w c.args.s c.is_negative_at.result (lawful_of (matrix x.group) x.group.lawful) k h c.is_negative_at.ensures;
-      outside = λ n. absurd (n k);
-    }
+    let k = c.has_letter.ensures.0 c.if-has_letter.true in
+    let n = matrix_rank x.group in
+    let w = x.wide in
+    let i = k.to_rank in (k.from_one, omega arith)
+
+pub returns-then-has_letter-clause-told : goal.returns-then-has_letter-clause-told
+returns-then-has_letter-clause-told g c w h =
+    let x = c.args.self.now in
+    let m = matrix x.group in
+    descent_told m (numbers (map g.N.Number.value x.row.now)) w c.args.s c.is_negative_at.result (lawful_of m x.group.lawful) (c.has_letter.ensures.0 c.if-has_letter.true) h c.is_negative_at.ensures

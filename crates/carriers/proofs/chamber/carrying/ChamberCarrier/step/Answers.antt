@@ -1,63 +1,13 @@
-use Rattle.std.proofs.Common.{◌≡◌, ℕ, ◌-◌, ◌≤◌, [], ◌∷◌, ◌++◌, map, length, get_or, drop, refl, subst, arith}
-use Rattle.coxeter.specs.Groups.{Letter}
-use Rattle.coxeter.specs.Matrices.{matrix}
-use Rattle.coxeter.proofs.Matrices.{cut_rank, cut_letter}
-use Rattle.carriers.specs.CarrierLaws.{shows_fitting}
-use Rattle.carriers.proofs.Standing.{moved_shows, stuck_unfit}
-use Rattle.carriers.proofs.Chambers.{chamber_same, table_from}
+use Rattle.std.proofs.Common.{take, drop, arith}
+use Rattle.std.proofs.lemmas.List.{take-append-drop, length-take-le}
+use Rattle.carriers.proofs.Chambers.{chamber_steps}
 use Rattle.carriers.proofs.chamber.carrying.ChamberCarrier.step.Goals as goal
 
-pub returns-then-s-eq0 : goal.returns-then-s-eq0
-returns-then-s-eq0 g c =
+pub returns-clause-told : goal.returns-clause-told
+returns-clause-told g c =
     let x = c.args.self.now in
-    let r = cut_rank x.group.rank x.group.rows in
-    record {
-      told = record {
-        same = refl;
-        took = (refl, λ k. let a = k.from_one in let b = k.to_rank in omega (arith, c.then-s-eq0.either));
-      };
-      beyond = refl;
-    }
-
-pub returns-then-step_point : goal.returns-then-step_point
-returns-then-step_point g c =
-    let x = c.args.self.now in
-    let row = c.step_point.new.self.row.now in
-    let m = c.if-step_point.ensures in
-    let k : Letter (matrix x.group) c.args.s = cut_letter x.group.rank x.group.rows c.args.s (omega arith) (omega arith) in
-    let e : length (matrix x.group) ≡ c.rank-n.result = omega (arith, cut_rank x.group.rank x.group.rows) in
-    let w : x.group.rank ≤ length row = omega arith in
-    let t = table_from (matrix x.group) x.coefficients.columns x.table c.args.s k in
-    record {
-      told = record {
-        same = refl;
-        took = (
-          k,
-          λ v h.
-              let p = moved_shows (matrix x.group) c.rank-n.result c.args.s e (get_or x.coefficients.columns (c.args.s - 1) []) t (map g.N.Number.value x.lent.row.now) (map g.N.Number.value row) v k m.moved h in
-              (shows_fitting g.N.Number.value x.group row w g.N.Number.fits g.met.N.Number.within (v ++ (c.args.s ∷ [])) p, p),
-        );
-      };
-      beyond = subst (λ (n : ℕ). drop n row ≡ drop n x.lent.row.now) c.rank-n.ensures.told m.beyond;
-    }
-
-pub returns-else-step_point : goal.returns-else-step_point
-returns-else-step_point g c =
-    let x = c.args.self.now in
-    let row = c.step_point.new.self.row.now in
-    let m = c.if-step_point.ensures in
-    let k : Letter (matrix x.group) c.args.s = cut_letter x.group.rank x.group.rows c.args.s (omega arith) (omega arith) in
-    let e : length (matrix x.group) ≡ c.rank-n.result = omega (arith, cut_rank x.group.rank x.group.rows) in
-    let w : x.group.rank ≤ length row = omega arith in
-    let t = table_from (matrix x.group) x.coefficients.columns x.table c.args.s k in
-    record {
-      told = record {
-        same = refl;
-        took = (
-          chamber_same x c.step_point.new.self _ _ m.moved.0,
-          k,
-          λ v h. stuck_unfit (matrix x.group) c.rank-n.result c.args.s e (get_or x.coefficients.columns (c.args.s - 1) []) t (map g.N.Number.value x.lent.row.now) g.N.Number.fits v k m.moved.1 h,
-        );
-      };
-      beyond = subst (λ (n : ℕ). drop n row ≡ drop n x.lent.row.now) c.rank-n.ensures.told m.beyond;
-    }
+    let n = c.rank-n.result in
+    let w = x.wide in
+    let e = length-take-le n x.row.now (omega arith) in
+    chamber_steps g.N.Number.value g.N.Number.fits g.met.N.Number.within x c.args.s (c.has_letter.ensures.0 c.if-not-has_letter.false) (take n x.row.now) (drop n x.row.now) c.step_point.new.row
+    (take-append-drop n x.row.now) (omega arith) (omega arith) _ _ c.step_point.result c.step_point.ensures

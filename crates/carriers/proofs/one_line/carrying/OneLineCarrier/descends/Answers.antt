@@ -1,17 +1,22 @@
-use Rattle.std.proofs.Common.{◌∙◌, arith}
-use Rattle.coxeter.specs.Groups.{Letter}
+use Rattle.std.proofs.Common.{arith}
 use Rattle.coxeter.specs.Matrices.{matrix}
-use Rattle.coxeter.proofs.Matrices.{lawful_of, cut_letter}
+use Rattle.coxeter.proofs.Matrices.{lawful_of}
 use Rattle.carriers.specs.Lines.{gaps}
+use Rattle.carriers.specs.CarrierLaws.{matrix_rank}
 use Rattle.carriers.proofs.Standing.{descent_told}
 use Rattle.carriers.proofs.Exchanges.{gap_negative}
 use Rattle.carriers.proofs.one_line.carrying.OneLineCarrier.descends.Goals as goal
 
-pub returns : goal.returns
-returns c =
+pub bounds-self-s : goal.bounds-self-s
+bounds-self-s c =
+    let x = c.args.self.now in let k = c.has_letter.ensures.0 c.if-has_letter.true in let n = matrix_rank x.group in let w = x.wide in let i = k.to_rank in omega arith
+
+pub bounds-self-s-then-has_letter : goal.bounds-self-s-then-has_letter
+bounds-self-s-then-has_letter c =
+    let x = c.args.self.now in let k = c.has_letter.ensures.0 c.if-has_letter.true in let n = matrix_rank x.group in let w = x.wide in let i = k.to_rank in omega arith
+
+pub returns-then-has_letter-clause-told : goal.returns-then-has_letter-clause-told
+returns-then-has_letter-clause-told c w h =
     let x = c.args.self.now in
-    let k : Letter (matrix x.group) c.args.s = cut_letter x.group.rank x.group.rows c.args.s (omega arith) (omega arith) in
-    record {
-      told = λ w h. descent_told (matrix x.group) (gaps x.lent.row.now) w c.args.s c.is_inverted.result (lawful_of (matrix x.group) x.group.lawful) k h.shows (c.is_inverted.ensures ∙ gap_negative _ _);
-      outside = λ n. absurd (n k);
-    }
+    let m = matrix x.group in
+    descent_told m (gaps x.row.now) w c.args.s _ (lawful_of m x.group.lawful) (c.has_letter.ensures.0 c.if-has_letter.true) h.shows (gap_negative _ _)

@@ -1,17 +1,20 @@
-use Rattle.std.proofs.Common.{◌≡◌, ℕ, ◌+◌, drop, refl, subst, arith}
+use Rattle.std.proofs.Common.{◌+◌, drop, refl, ◌++◌, ◌∙◌, arith}
+use Rattle.std.proofs.lemmas.List.{get_or_append_left, length-take-le}
 use Rattle.coxeter.specs.Matrices.{matrix}
+use Rattle.carriers.specs.CarrierLaws.{matrix_rank}
 use Rattle.carriers.proofs.Exchanges.{home_stands}
 use Rattle.carriers.proofs.one_line.carrying.OneLineCarrier.home.Goals as goal
 
-pub returns : goal.returns
-returns c =
+pub returns-clause-home : goal.returns-clause-home
+returns-clause-home c =
     let x = c.args.self.now in
-    let row = c.set_rising.new.self.row.now in
-    let e = c.rank-n.ensures.told in
+    let n = c.rank-n.result + 1 in
+    let front = c.set_rising.new.row in
+    let rest = drop n x.row.now in
+    let w = x.wide in
+    let r = matrix_rank x.group in
+    let e = length-take-le n x.row.now (omega arith) in
     record {
-      home = record {
-        same = refl;
-        here = home_stands (matrix x.group) row (λ i h. c.set_rising.ensures.entries i (omega arith));
-      };
-      beyond = subst (λ (n : ℕ). drop (n + 1) row ≡ drop (n + 1) x.lent.row.now) e c.set_rising.ensures.beyond;
+      same = refl;
+      here = home_stands (matrix x.group) (front ++ rest) (λ i h. get_or_append_left front rest 0 i (omega arith) ∙ c.set_rising.ensures i (omega arith));
     }
