@@ -1,6 +1,6 @@
 //! Whole numbers up to a limit.
 
-ghost use Rattle.std.specs.Prelude.{◌≡◌, false, IfSome, IfNone};
+ghost use Rattle.std.specs.Prelude.{◌≡◌, ◌^◌, ◌<◌, false, IfSome, IfNone};
 ghost use Rattle.numbers.specs.Kinds.{Small, within};
 
 /// A whole number of at most LIMIT, either way.
@@ -13,10 +13,12 @@ pub(crate) struct Bounded<const LIMIT: u64> {
 impl<const LIMIT: u64> Bounded<LIMIT> {
     /// The number x, if it is not past the limit.
     pub(crate) fn new(x: i64) -> Option<Bounded<LIMIT>>
+        requires { LIMIT < 2 ^ 63 }
         ensures some { IfSome result (λ b. b.value ≡ x) }
         ensures none { IfNone result (within LIMIT x ≡ false) }
     {
-        if x.unsigned_abs() <= LIMIT {
+        let limit = LIMIT as i64;
+        if (-limit..=limit).contains(&x) {
             Some(Bounded { value: x })
         } else {
             None
