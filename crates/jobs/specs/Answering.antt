@@ -39,11 +39,7 @@ Answered P (Ok s) = P (Ok s)
 Answered P (Err (Refused e)) = P (Err e)
 Answered P (Err (Memory e)) = Unit {0}
 
--- r is the answer of a job over words, as P says of the call, or memory ran out
-abbrev pub AnsweredByWord : {Z : Type 0} → (Result (String Z) WordFault → Type 0) → Result (String Z) JobError → Type 0
-AnsweredByWord P r = Answered (ByWord P) r
-
--- how a job with the answer r leaves the carrier x as y: brought home by the call over its word, untouched where its line is refused; where memory ran out, one of both
+-- y is the carrier x after a job with the answer r: brought home by the call over its word, untouched where the line is refused; where memory ran out, one of the two
 abbrev pub Leaves : {X S : Type 0} → (X → Frame) → (X → Word → Type 0) → X → X → Result S JobError → Type 0
 Leaves frame at x y (Ok s) = BroughtHome frame at x y
 Leaves frame at x y (Err (Refused (fault.Word e))) = BroughtHome frame at x y

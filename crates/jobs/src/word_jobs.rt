@@ -1,4 +1,6 @@
 // Jobs over words: the call on a carrier, and the line of its answer.
+// One function for several jobs would take the call as a closure over a carrier and a buffer: its contract would be longer than these bodies.
+// `heap` stays a parameter, as in every call of std that makes a value.
 ghost use Rattle.std.specs.Prelude.{◌≡◌, ◌++◌, map, reverse, codes};
 ghost use Rattle.lines.specs.Letters.{letter_of};
 ghost use Rattle.jobs.specs.WordJobs.{DescentsJob, FormJob, NumberJob};
