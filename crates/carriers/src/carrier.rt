@@ -26,6 +26,7 @@ pub trait Carrier {
         ensures { result ≡ rank_of (frame self.now).group };
 
     /// The exponent of s and t: 0 for inf, 255 where one of them is no letter.
+    // A number and not an enum: 0 and 255 are fixed by the interface, for every carrier.
     fn exponent(&self, s: u8, t: u8) -> u8
         ensures { result ≡ answered_exponent (frame self.now).group s t };
 

@@ -19,16 +19,16 @@ fn column_of(group: &Group, s: u8) -> [Coefficient; 8]
 }
 
 /// The coefficients of a group: c(a,s) stands at columns[s − 1][a − 1].
+// A fixed table: there is no heap here.
 #[derive(Clone, Copy)]
 pub(crate) struct Coefficients {
     pub(crate) columns: [[Coefficient; 8]; 8],
 }
 
-impl Coefficients {
-    /// The coefficients of this group.
-    pub(crate) fn of(group: &Group) -> Coefficients
-        ensures { Table (matrix group.now) result.columns }
-    {
+impl From<&Group> for Coefficients {
+    ghost from_gives = { λ g c. Table (matrix g.now) c.columns };
+
+    fn from(group: &Group) -> Coefficients {
         let columns = std::array::from_fn(
             |i|
                 requires { i < 8 }

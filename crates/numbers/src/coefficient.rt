@@ -15,6 +15,7 @@ pub struct Coefficient {
 
 impl Coefficient {
     /// The coefficient 0.
+    // Not a derived Default: the name says which coefficient it is.
     pub fn zero() -> Coefficient
         ensures { result ≡ zero }
     {
@@ -25,6 +26,7 @@ impl Coefficient {
     }
 
     /// The coefficient c(s,t) by the exponent of s and t, 0 for inf, and by whether s is the smaller.
+    // The exponent is a number, 0 for inf, as groups and carriers answer it.
     pub fn of_exponent(exponent: u8, rising: bool) -> Coefficient
         ensures { worth result ≡ coefficient_of exponent rising }
     {

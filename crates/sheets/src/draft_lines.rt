@@ -16,6 +16,7 @@ use lines::keys::read;
 use lines::line::{Due, Line};
 
 // The rank that the value spells: one digit from 1 to 8.
+// Not TryFrom: a rank is a bare number, and there is no type of its own to turn the text into.
 fn rank_of(value: &[u8]) -> Option<u8>
     ensures { MatchOption result ((n : ℕ) → 1 ≤ n → n ≤ 8 → value.now ≢ digit n) (λ n. (1 ≤ n) × (n ≤ 8) × (value.now ≡ digit n)) }
 {

@@ -8,6 +8,7 @@ use crate::kinds::Kind;
 use coxeter::group::Group;
 
 /// A draft that wants its next row: its rank is known, and the first `done` rows are there.
+// A fixed table, which becomes the group's: there is no heap here.
 #[derive(Drop)]
 pub struct RowsDraft {
     pub(crate) rank: u8,

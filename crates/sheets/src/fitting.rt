@@ -7,6 +7,7 @@ use crate::drafts::RowsDraft;
 use std::cmp::Ordering;
 
 // How many bytes an exponent is written in.
+// Exponents are numbers, 0 for inf, as a group keeps them: an enum would be turned into them again at each use.
 fn width(e: u8) -> usize
     ensures { result ≡ length (exponent_text e) }
 {

@@ -11,6 +11,7 @@ use lines::located::{Located, at};
 use lines::reader::{Numbered, Reader};
 
 // The next line, or the sheet's fault that no line is left.
+// Not `From` under `?`: the trait and `Located` belong to other crates, so no impl can stand here.
 fn next_line<'a>(reader: &mut Reader<'a>) -> Result<Numbered<'a>, Located<SheetFault>>
     ensures line { MatchResult result (Next reader.old reader.new) (NoSheetLine reader.old reader.new) }
     ensures shorter { OnOk result (length reader.new.rest.now < length reader.old.rest.now) }

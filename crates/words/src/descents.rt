@@ -29,6 +29,7 @@ impl Descents {
     }
 
     /// The least of its letters, 0 for none.
+    // 0 and not None: the interface answers 0 for the least of no letters, and so it is printed.
     pub fn least(self) -> u8
         ensures { LeastIn self.bits result }
     {

@@ -12,6 +12,7 @@ use arrayvec::ArrayVec;
 use carriers::carrier::Carrier;
 
 /// What is found of two words.
+// Three cases with names: an Option of a flag would say less.
 #[derive(Clone, Copy, Debug, PartialEq)]
 pub enum Comparison {
     /// They name one element.

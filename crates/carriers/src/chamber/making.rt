@@ -36,7 +36,7 @@ impl<'a, N: Number> Chamber<'a, N> {
         ensures reach { (w : Word) → Decides ((chamber_frame N.Number.fits result).reach w) (AllFit N.Number.fits (matrix group) w) }
         ensures beyond { chamber_beyond result ≡ drop (rank_of (matrix group)) row.old }
     {
-        let coefficients = Coefficients::of(&group);
+        let coefficients = Coefficients::from(&group);
         let mut chamber = Chamber {
             group,
             coefficients,

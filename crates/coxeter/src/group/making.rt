@@ -10,6 +10,7 @@ use crate::group::pairs::Table;
 
 impl Group {
     /// Do the first rank entries of the first rank rows make a Coxeter matrix?
+    // rank and rows stay two parameters: a type for the two of them would be a group before it is checked.
     pub fn check(rank: u8, rows: &[[u8; 8]; 8]) -> bool
         ensures { Decides result (Lawful (cut rank rows.now)) }
     {

@@ -26,6 +26,7 @@ impl Group {
     }
 
     /// The exponent of s and t: 0 for inf, 255 where s or t is no letter.
+    // A number and not an enum: 0 for inf and 255 for no letter are what the interface of groups and carriers answers.
     pub fn exponent(&self, s: u8, t: u8) -> u8
         ensures { result ≡ answered_exponent (matrix self.now) s t }
     {

@@ -5,7 +5,7 @@ use Rattle.numbers.specs.declared.coefficient.Coefficient.{Coefficient}
 use Rattle.carriers.specs.Tables.{Column}
 use Rattle.carriers.specs.CarrierLaws.{matrix_rank}
 use Rattle.carriers.proofs.Made.{made_at}
-use Rattle.carriers.proofs.coefficients.Coefficients.of.Goals as goal
+use Rattle.carriers.proofs.coefficients.CoefficientsFromRefGroup.from.Goals as goal
 
 pub returns : goal.returns
 returns c s l =
