@@ -1,6 +1,7 @@
 -- From line to line of a sheet: what the lines so far led to, and where they are refused.
 use Rattle.std.proofs.Common.{◌≡◌, ℕ, List, [], ◌∷◌, ◌++◌, length, Ok, Err, Result, sym, refl, ap, ◌∙◌, subst, append_assoc, arith, MatchResult}
 use Rattle.coxeter.specs.Matrices.{matrix}
+use Rattle.coxeter.proofs.Matrices.{lawful_of}
 use Rattle.lines.specs.Cuts.{Cut}
 use Rattle.lines.specs.Reading.{Next}
 use Rattle.lines.specs.Located.{located}
@@ -25,6 +26,9 @@ leads_nowhere g r h = record { text = refl; count = refl; reached = h; input = r
 
 pub draft_reached : (d : RowsDraft) → Reached (rows_stage d)
 draft_reached d = (drafted_rows d.rank d.done d.rows d.some d.few d.left (filled_of d.rank d.done d.rows d.filled)).reached
+
+pub kind_reached : (d : KindDraft) → Reached (kind_stage d)
+kind_reached d = lawful_of (matrix d.group) d.group.lawful
 
 -- a line and what follows it
 pub cut_ended : {bs line rest : List ℕ} (front : List ℕ) → Cut 10 bs line rest → front ++ bs ≡ (front ++ ended line) ++ rest

@@ -1,7 +1,7 @@
 // Reading a whole sheet, line after line.
 ghost use Rattle.std.specs.Prelude.{◌<◌, length, MatchResult, OnOk};
 ghost use Rattle.lines.specs.Reading.{Next};
-ghost use Rattle.sheets.specs.Stages.{rank_due, Reached};
+ghost use Rattle.sheets.specs.Stages.{rank_due};
 ghost use Rattle.sheets.specs.Drafts.{rows_stage, kind_stage};
 ghost use Rattle.sheets.specs.Reading.{NoSheetLine, KindRead, SheetRead, SheetRefused, Leads, RefusedFrom};
 
@@ -44,7 +44,6 @@ fn rows(reader: &mut Reader, mut draft: RowsDraft) -> Result<KindDraft, Located<
 
 // Reads the kind's line.
 fn kind(reader: &mut Reader, draft: KindDraft) -> Result<CheckedDraft, Located<SheetFault>>
-    requires { Reached (kind_stage draft) }
     ensures { MatchResult result (KindRead draft reader.old reader.new) (RefusedFrom (kind_stage draft) reader.old reader.new) }
 {
     let line = next_line(reader)?;
