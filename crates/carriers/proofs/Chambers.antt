@@ -14,8 +14,7 @@ use Rattle.coxeter.specs.Tables.{cut}
 use Rattle.numbers.specs.declared.coefficient.Coefficient.{Coefficient}
 use Rattle.carriers.specs.declared.chamber.Chamber.{Chamber}
 use Rattle.carriers.specs.declared.faults.StepFault.{StepFault}
-use Rattle.carriers.specs.declared.faults.StepFault.TheVariants.{Letter as NoLetter, Reach as OutOfReach}
-use Rattle.carriers.specs.Rows.{nought, numbers, fitting, Shows}
+use Rattle.carriers.specs.Rows.{nought, numbers, Shows}
 use Rattle.carriers.specs.Steps.{Advanced}
 use Rattle.carriers.specs.Tables.{Column, Table}
 use Rattle.carriers.specs.Carriers.{Took, Stepped}

@@ -10,10 +10,11 @@ use Rattle.coxeter.specs.Lengths.{Descends}
 use Rattle.coxeter.specs.Matrices.{matrix}
 use Rattle.coxeter.proofs.Lengths.{signs_descend}
 use Rattle.numbers.specs.declared.coefficient.Coefficient.{Coefficient}
-use Rattle.carriers.specs.Rows.{nought, numbers, all_fit, letters_test, fitting, Shows}
+use Rattle.carriers.specs.Frames.{Frame}
+use Rattle.carriers.specs.Rows.{fitting_frame, full_frame, nought, numbers, all_fit, letters_test, fitting, Shows}
 use Rattle.carriers.specs.Steps.{taken_off, Moved, Stuck}
 use Rattle.carriers.specs.Tables.{Column}
-use Rattle.carriers.specs.CarrierLaws.{all_fit_at, fitting_parts, fitting_from, matrix_rank}
+use Rattle.carriers.specs.CarrierLaws.{letters_from, letters_tested, all_fit_at, fitting_parts, fitting_from, matrix_rank}
 
 pub walked_snoc : (g : Matrix) (w : Word) (s : ℕ) (v : Point) → walked g (w ++ (s ∷ [])) v ≡ stepped g s (walked g w v)
 walked_snoc g [] s v = refl
@@ -74,10 +75,15 @@ module _ (g : Matrix) (n s : ℕ) (same : rank g ≡ n) (column : List Coefficie
       let d : fits (point g (w ++ (s ∷ [])) a) ≡ false = subst (λ z. fits z ≡ false) (taken_stepped a i ∙ stepped_shown g s (numbers l) w j p a i) e in
       and_right (letters_test g (w ++ (s ∷ []))) _ (all_fit_not fits (point g (w ++ (s ∷ []))) (rank g) a i.from_one i.to_rank d)
 
--- the reach of a chamber, in full
-pub fitting_exactly : (fits : Exact → Bool) (g : Matrix) (w : Word) → (fitting fits g w ≡ true) ↔ (Letters g w × ((a : ℕ) → Letter g a → fits (point g w a) ≡ true))
-fitting_exactly fits g w =
+-- the reach of a chamber whose frame is that of the group g, in full
+pub fitting_exactly : (fits : Exact → Bool) (g h : Matrix) → fitting_frame fits h ≡ fitting_frame fits g → (w : Word) → (fitting fits h w ≡ true) ↔ (Letters g w × ((a : ℕ) → Letter g a → fits (point g w a) ≡ true))
+fitting_exactly fits g h e w =
+    subst (λ (f : Frame). (f.reach w ≡ true) ↔ (Letters g w × ((a : ℕ) → Letter g a → fits (point g w a) ≡ true))) (sym e)
     (λ h. let p = fitting_parts fits g w h in (p.0, λ a k. all_fit_at fits (point g w) (rank g) a k.from_one k.to_rank p.1), λ h. fitting_from fits g w h.0 h.1)
+
+-- the reach of one-line notation whose frame is that of the group g, in full
+pub full_exactly : (g h : Matrix) → full_frame h ≡ full_frame g → (w : Word) → (letters_test h w ≡ true) ↔ Letters g w
+full_exactly g h e w = subst (λ (f : Frame). (f.reach w ≡ true) ↔ Letters g w) (sym e) (letters_from g w, letters_tested g w)
 
 pub home_shows : {N : Type 0} (value : N → Exact) (gr : Group) (row : List N) → ((i : ℕ) → i < gr.rank → get_or (map value row) i nought ≡ integer (pos 1)) → Shows (matrix gr) (numbers (map value row)) []
 home_shows value gr row h = record { letters = tt; shown = λ a k. h (a - 1) (let r = matrix_rank gr in let b = k.from_one in let c = k.to_rank in omega arith) }

@@ -19,10 +19,13 @@ module _ {N : Type 0} (value : N → Exact) (e : Exact) where
   pub value_read : (l : List N) (i : ℕ) (x : N) → i < length l → x ≡ get_or l i x → value x ≡ get_or (map value l) i e
   value_read l i x h r = ap value r ∙ sym (get_or-map value l i x e h)
 
-  -- a number of the row, less its coefficient times the number of the letter s
-  pub taken_off_read : (row : List N) (column : List Coefficient) (s i : ℕ) (x y : N) → i < length row → s - 1 < length row → x ≡ get_or row i x → y ≡ get_or row (s - 1) y
-      → minus (value x) (times (worth (get_or column i zero)) (value y)) ≡ minus (get_or (map value row) i e) (times (worth (get_or column i zero)) (get_or (map value row) (s - 1) e))
-  taken_off_read row column s i x y h k p q =
+  -- a number of the row, less its coefficient times the number of the letter s, written after those before it
+  pub taken_more : (row fresh : List N) (column : List Coefficient) (s i : ℕ) (x by y : N) → i < length row → s - 1 < length row → i < length fresh → x ≡ get_or row i x → by ≡ get_or row (s - 1) by
+      → value y ≡ minus (value x) (times (worth (get_or column i zero)) (value by))
+      → ((k : ℕ) → k < i → get_or (map value fresh) k e ≡ minus (get_or (map value row) k e) (times (worth (get_or column k zero)) (get_or (map value row) (s - 1) e)))
+      → (k : ℕ) → k < i + 1 → get_or (map value (set fresh i y)) k e ≡ minus (get_or (map value row) k e) (times (worth (get_or column k zero)) (get_or (map value row) (s - 1) e))
+  taken_more row fresh column s i x by y h k l p q told below =
       let u = value_read row i x h p in
-      let v = value_read row (s - 1) y k q in
-      λ j. minus (u j) (times (worth (get_or column i zero)) (v j))
+      let v = value_read row (s - 1) by k q in
+      written_more (λ k. minus (get_or (map value row) k e) (times (worth (get_or column k zero)) (get_or (map value row) (s - 1) e))) fresh i y l below
+      (told ∙ (λ j. minus (u j) (times (worth (get_or column i zero)) (v j))))

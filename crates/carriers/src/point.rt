@@ -43,7 +43,7 @@ pub(crate) fn step_point<N: Number>(
     for (i, x) in row.iter().enumerate() {
         fresh[i] = x.minus_multiple(column[i], by).ok_or(StepFault::Reach)?;
     }
-    // `copy_from_slice` would lend `fresh` as a slice, which a generic array cannot be without a proof that the type is small.
+    // Not `copy_from_slice`: a generic array is lent as a slice only with a proof that its type is small.
     for (k, x) in row.iter_mut().enumerate() {
         *x = fresh[k];
     }

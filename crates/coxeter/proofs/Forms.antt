@@ -11,7 +11,8 @@ use Rattle.coxeter.specs.Forms.{least_negative, form_of}
 use Rattle.coxeter.specs.Theorems.{Formed, JoinedWordsMeet, OneForm, FormsComputed, FormsDecide, JoiningDecided, PointsDecide}
 use Rattle.coxeter.proofs.Positives.{natural_positive}
 use Rattle.coxeter.proofs.Signs.{positive_rule, negative_rule}
-use Rattle.coxeter.proofs.Words.{length_more, Last, nothing, ending, last}
+use Rattle.std.proofs.lemmas.List.{length_push}
+use Rattle.coxeter.proofs.Words.{Last, nothing, ending, last}
 use Rattle.coxeter.proofs.Walks.{walked_append, joined_walk}
 use Rattle.coxeter.proofs.Joining.{join_then, join_same, join_back, join_before, join_letters, letters_append, letters_front, letters_rest, struck}
 use Rattle.coxeter.proofs.KeyLemma.{Everywhere, Ends, over, under, ends, positive_turned_over}
@@ -42,7 +43,7 @@ form_by_descent g law w k rest s m (under p w' j d) = (
     form = back m (subst (λ z. Reads g z r.0) (sym (joined_walk g law j start) ∙ walked_append g w (s ∷ []) start) r.1.form);
     joined = join_then (join_back law (struck w s m.letter)) (join_then (join_before (s ∷ []) j) (join_before (s ∷ []) r.1.joined));
     letters = letters_append g r.0 (s ∷ []) r.1.letters (m.letter, tt);
-    no_longer = omega (arith, length_more r.0 s, r.1.no_longer);
+    no_longer = omega (arith, length_push r.0 s, r.1.no_longer);
   },
 )
   where
@@ -66,12 +67,12 @@ form_without_descent g law w k rest f (ending u s) = by (ends g law start (start
         form = subst (λ z. Reads g z r.0) (sym (joined_walk g law j start)) r.1.form;
         joined = join_then j r.1.joined;
         letters = r.1.letters;
-        no_longer = omega (arith, length_more u s, r.1.no_longer);
+        no_longer = omega (arith, length_push u s, r.1.no_longer);
       },
     )
       where
         r : (f : Word) × Formed g u' f
-        r = rest u' (omega (arith, length_more u s)) (join_letters g j k)
+        r = rest u' (omega (arith, length_push u s)) (join_letters g j k)
 
 formed_by : (g : Matrix) → Lawful g → (w : Word) → Letters g w → Rest g w → (f : Word) × Formed g w f
 formed_by g law w k rest = by (least_negative (point g w) (rank g) 1) (found g (point g w))

@@ -1,6 +1,6 @@
 -- A word and its reverse strike each other out; the distance of two words is 0 exactly when they are joined.
-use Rattle.std.proofs.Common.{◌≡◌, [], ◌∷◌, ◌++◌, reverse, length, sym, refl, ap, ◌∙◌, subst, append_assoc, append-nil, arith}
-use Rattle.std.proofs.lemmas.List.{reverse-append, reverse-reverse}
+use Rattle.std.proofs.Common.{◌≡◌, [], ◌∷◌, ◌++◌, reverse, sym, ap, ◌∙◌, subst, append_assoc, append-nil, arith}
+use Rattle.std.proofs.lemmas.List.{reverse-append, reverse-reverse, nil_from_length}
 use Rattle.coxeter.specs.Groups.{Matrix}
 use Rattle.coxeter.specs.Moves.{Word, Letters, Joined, none, strike}
 use Rattle.coxeter.specs.Theorems.{DistancesDecide}
@@ -19,10 +19,6 @@ cancelled g (s ∷ u) h =
 pub cancelled_back : (g : Matrix) (u : Word) → Letters g u → Joined g (reverse u ++ u) []
 cancelled_back g u h = subst (λ z. Joined g (reverse u ++ z) []) (reverse-reverse u) (cancelled g (reverse u) (letters_reverse g u h))
 
-empty_of : (w : Word) → length w ≡ 0 → w ≡ []
-empty_of [] e = refl
-empty_of (s ∷ w) e = absurd (omega arith)
-
 pub distances_decide : DistancesDecide
 distances_decide g law u v n k i l = (forth, back)
   where
@@ -30,7 +26,7 @@ distances_decide g law u v n k i l = (forth, back)
     forth e = join_then (join_same (sym (append-nil u))) (join_then (join_behind u (join_back law whole)) (join_then (join_same (sym (append_assoc u (reverse u) v))) (join_before v (cancelled g u k))))
       where
         whole : Joined g (reverse u ++ v) []
-        whole = join_then l.joined (join_same (empty_of l.shortest (l.size ∙ e)))
+        whole = join_then l.joined (join_same (nil_from_length l.shortest (l.size ∙ e)))
 
     back : Joined g u v → n ≡ 0
     back j = let h = l.least [] (join_then (join_behind (reverse u) (join_back law j)) (cancelled_back g u k)) in omega arith

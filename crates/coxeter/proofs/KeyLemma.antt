@@ -6,7 +6,8 @@ use Rattle.coxeter.specs.Moves.{Word, Letters, alternating, Joined}
 use Rattle.coxeter.specs.Points.{Point, walked}
 use Rattle.coxeter.proofs.Exacts.{negated_negated}
 use Rattle.coxeter.proofs.Positives.{Positive}
-use Rattle.coxeter.proofs.Words.{length_more, Last, nothing, ending, last, in_turn, alternating_more, length_alternating, turn_of}
+use Rattle.std.proofs.lemmas.List.{length_push}
+use Rattle.coxeter.proofs.Words.{Last, nothing, ending, last, in_turn, alternating_more, length_alternating, turn_of}
 use Rattle.coxeter.proofs.Walks.{walked_append, walked_more, joined_walk}
 use Rattle.coxeter.proofs.Joining.{join_then, join_same, join_before, join_letters, letters_front, letters_rest, struck}
 use Rattle.coxeter.proofs.TwoLetters.{Two, Within, within_or_full, turn_positive}
@@ -108,10 +109,10 @@ ends_step g law v e n ended w (ending u t) h k s l = by (cases_eq t s)
     t_letter = (letters_rest g u (t ∷ []) k).0
 
     u_short : length u ≤ n
-    u_short = omega (arith, length_more u t)
+    u_short = omega (arith, length_push u t)
 
     same : t ≡ s → Ends g v u s → Ends g v (u ++ (t ∷ [])) s
-    same f (over p) = ends_under g law v (u ++ (t ∷ [])) u s l (join_same (ap (λ z. u ++ (z ∷ [])) f)) (omega (arith, length_more u t)) p
+    same f (over p) = ends_under g law v (u ++ (t ∷ [])) u s l (join_same (ap (λ z. u ++ (z ∷ [])) f)) (omega (arith, length_push u t)) p
     same f (under p w' j d) = over (subst Positive (sym (ap (λ z. walked g (u ++ (z ∷ [])) v s) f ∙ walked_more g law u s l v)) p)
 
     by : (t ≡ s) ⊎ (t ≡ s → ⊥) → Ends g v (u ++ (t ∷ [])) s

@@ -1,5 +1,5 @@
 -- The matrix that a table of rows is cut to: its rank, its entries, and when it is lawful.
-use Rattle.std.proofs.Common.{◌≡◌, ℕ, ◌+◌, ◌-◌, ◌<◌, ◌≤◌, ◌≢◌, ◌⊎◌, List, [], map, length, get_or, take, sym, refl, ap, ◌∙◌, subst, ap₂, inl, inr, ⊎_elim, arith, length-take-le, get_or-take}
+use Rattle.std.proofs.Common.{◌≡◌, ℕ, ◌-◌, ◌<◌, ◌≤◌, ◌≢◌, ◌⊎◌, List, [], map, length, get_or, take, sym, refl, ap, ◌∙◌, subst, ap₂, inl, inr, ⊎_elim, arith, length-take-le, get_or-take}
 use Rattle.std.specs.List.{range_with_len}
 use Rattle.std.proofs.lemmas.List.FromFn.{length-map-range_with_len, get_or-map-range_with_len, fill_by_all}
 use Rattle.std.proofs.lemmas.Bool.{cases_eq, cases_order}
@@ -30,15 +30,6 @@ pub cut_exponent : (n : ℕ) (rows : List (List ℕ)) (s t : ℕ) → Letter (cu
 cut_exponent n rows s t l k =
     ap (λ (r : List ℕ). get_or r (t - 1) 255) (cut_row n rows s l)
     ∙ get_or-map-range_with_len (λ j. place rows (s - 1) j) 0 n (t - 1) (t - 1) 255 (omega (arith, k.from_one, letter_within n rows t k)) (omega arith)
-
--- the same, by places
-pub cut_place : (n : ℕ) (rows : List (List ℕ)) (i j : ℕ) → i < n → j < n → exponent (cut n rows) (i + 1) (j + 1) ≡ place rows i j
-cut_place n rows i j h k =
-    cut_exponent n rows (i + 1) (j + 1) (cut_letter n rows (i + 1) (omega arith) (omega arith)) (cut_letter n rows (j + 1) (omega arith) (omega arith))
-    ∙ (λ z. place rows (low i z) (low j z))
-  where
-    low : (k : ℕ) → k + 1 - 1 ≡ k
-    low k = omega arith
 
 -- the first n entries of a row, by their places
 pub front_by_places : (new : List ℕ) (n : ℕ) → n ≤ length new → map (λ j. get_or new j 0) (range_with_len 0 n) ≡ take n new
@@ -132,20 +123,3 @@ lawful_of_places n rows low high p = pairs_lawful n rows low high each
 
         i : t - 1 < n
         i = omega (arith, k.from_one, letter_within n rows t k)
-
-pub places_of_lawful : (n : ℕ) (rows : List (List ℕ)) → Lawful (cut n rows) → LawfulPlaces n rows
-places_of_lawful n rows law = record {
-  diagonal = λ i h. (at i i h h).like refl;
-  unlike = λ i j h k d. ((at i j h k).unlike (λ e. d (omega arith))).0;
-  small = λ i j h k. small i j h k (cases_eq i j);
-  mirrored = λ i j h d. (at i j h (omega arith)).mirror;
-}
-  where
-    at : (i j : ℕ) → i < n → j < n → IsLawfulPair (i + 1) (j + 1) (place rows i j) (place rows j i)
-    at i j h k = subst (λ z. IsLawfulPair (i + 1) (j + 1) z (place rows j i)) (cut_place n rows i j h k)
-        (subst (λ z. IsLawfulPair (i + 1) (j + 1) (exponent (cut n rows) (i + 1) (j + 1)) z) (cut_place n rows j i k h)
-        (lawful_pairs (cut n rows) law (i + 1) (j + 1) (cut_letter n rows (i + 1) (omega arith) (omega arith)) (cut_letter n rows (j + 1) (omega arith) (omega arith))))
-
-    small : (i j : ℕ) → i < n → j < n → (i ≡ j) ⊎ (i ≡ j → ⊥) → place rows i j ≤ 6
-    small i j h k (inl e) = omega (arith, (at i j h k).like (omega arith))
-    small i j h k (inr d) = ((at i j h k).unlike (λ e. d (omega arith))).1

@@ -6,7 +6,7 @@ use Rattle.coxeter.specs.Moves.{Word}
 use Rattle.coxeter.specs.Points.{Point, stepped, Least, Reads, home, back, coefficient}
 use Rattle.coxeter.specs.Forms.{least_negative, read_on, read_off}
 use Rattle.coxeter.specs.Theorems.{LettersSuffice}
-use Rattle.coxeter.proofs.Words.{length_more}
+use Rattle.std.proofs.lemmas.List.{length_push}
 use Rattle.std.proofs.lemmas.Bool.{cases_order, cases_eq, both_ways}
 
 -- no letter's number is negative
@@ -81,7 +81,7 @@ read_letter g rest v (Some t) s n m = ap (λ (z : ℕ). rest (stepped g z v) ++ 
 pub reads_computed : (g : Matrix) (n : ℕ) {v : Point} {f : Word} → Reads g v f → length f ≤ n → read_off g n v ≡ f
 reads_computed g zero (home i) h = refl
 reads_computed g (suc n) (home {v = v} i) h = read_nothing g (read_off g n) v (least_negative v (rank g) 1) (found g v) i
-reads_computed g zero (back {f = f} {s = s} m r) h = absurd (omega (arith, length_more f s))
+reads_computed g zero (back {f = f} {s = s} m r) h = absurd (omega (arith, length_push f s))
 reads_computed g (suc n) (back {v = v} {f = f} {s = s} m r) h =
     read_letter g (read_off g n) v (least_negative v (rank g) 1) s (found g v) m
-    ∙ ap (λ z. z ++ (s ∷ [])) (reads_computed g n r (omega (arith, length_more f s)))
+    ∙ ap (λ z. z ++ (s ∷ [])) (reads_computed g n r (omega (arith, length_push f s)))

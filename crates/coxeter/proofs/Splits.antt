@@ -3,7 +3,7 @@ use Rattle.std.proofs.Common.{◌≡◌, ℕ, zero, suc, ◌+◌, ◌<◌, ◌�
 use mathlib.Core.Logic.{⊎_swap}
 use Rattle.coxeter.specs.Groups.{Matrix, Letter, Lawful, exponent}
 use Rattle.coxeter.specs.Moves.{Word, alternating, insert, Joined, none}
-use Rattle.coxeter.proofs.Words.{length_more}
+use Rattle.std.proofs.lemmas.List.{length_push}
 use Rattle.coxeter.proofs.Joining.{join, join_then, join_behind, join_before}
 use Rattle.coxeter.proofs.TwoLetters.{Two, swapped, Within, within_less, within_swapped, within_one, within_or_full, braid_joined}
 
@@ -102,4 +102,4 @@ module _ (g : Matrix) (law : Lawful g) (w : Word) (s : ℕ) where
 
 -- u t, of which t is the part in turn
 pub split_at_last : (g : Matrix) → Lawful g → (u : Word) (s t : ℕ) → Two g t s → Split g (u ++ (t ∷ [])) s u 1 t s
-split_at_last g law u s t d = record { two = d; one_of = inr refl; joined = none; no_longer = omega (arith, length_more u t); limit = within_one g law t s d }
+split_at_last g law u s t d = record { two = d; one_of = inr refl; joined = none; no_longer = omega (arith, length_push u t); limit = within_one g law t s d }

@@ -1,12 +1,9 @@
 -- Words from their end, and words of two letters in turn.
-use Rattle.std.proofs.Common.{◌≡◌, ℕ, zero, suc, ◌⊎◌, [], ◌∷◌, ◌++◌, length, sym, refl, ap, inl, inr, arith, length-append}
+use Rattle.std.proofs.Common.{◌≡◌, ℕ, zero, suc, ◌⊎◌, [], ◌∷◌, ◌++◌, length, sym, refl, ap, inl, inr}
 use mathlib.Core.Logic.{⊎_swap}
 use Rattle.coxeter.specs.Moves.{Word, alternating}
 
 -- ---- the last letter
-pub length_more : (u : Word) (t : ℕ) → length (u ++ (t ∷ [])) ≡ suc (length u)
-length_more u t = omega (arith, length-append u (t ∷ []))
-
 -- a word is empty, or has a last letter
 pub data Last : Word → Type 0 where
   nothing : Last []

@@ -13,55 +13,32 @@ pub struct Coefficient {
     golden: i8,
 }
 
-/// The product k x.
-fn scaled(k: i8, x: i64) -> i64
-    requires { Small 1000000000000 x }
-    ensures value { result ≡ k *ℤ x }
-    ensures small { Small 128000000000000 result }
-{
-    k as i64 * x
-}
-
 impl Coefficient {
-    /// The coefficient whole + golden φ.
-    fn of(whole: i8, golden: i8) -> Coefficient
-        ensures { result ≡ record { whole = whole; golden = golden } }
-    {
-        Coefficient { whole, golden }
-    }
-
     /// The coefficient 0.
     pub fn zero() -> Coefficient
         ensures { result ≡ zero }
     {
-        Coefficient::of(0, 0)
+        Coefficient {
+            whole: 0,
+            golden: 0,
+        }
     }
 
     /// The coefficient c(s,t) by the exponent of s and t, 0 for inf, and by whether s is the smaller.
     pub fn of_exponent(exponent: u8, rising: bool) -> Coefficient
         ensures { worth result ≡ coefficient_of exponent rising }
     {
-        match exponent {
-            0 => Coefficient::of(-2, 0),
-            1 => Coefficient::of(2, 0),
-            2 => Coefficient::of(0, 0),
-            3 => Coefficient::of(-1, 0),
-            4 => {
-                if rising {
-                    Coefficient::of(-1, 0)
-                } else {
-                    Coefficient::of(-2, 0)
-                }
-            }
-            5 => Coefficient::of(0, -1),
-            _ => {
-                if rising {
-                    Coefficient::of(-1, 0)
-                } else {
-                    Coefficient::of(-3, 0)
-                }
-            }
-        }
+        let (whole, golden) = match (exponent, rising) {
+            (0, _) => (-2, 0),
+            (1, _) => (2, 0),
+            (2, _) => (0, 0),
+            (3, _) | (4, true) => (-1, 0),
+            (4, false) => (-2, 0),
+            (5, _) => (0, -1),
+            (_, true) => (-1, 0),
+            (_, false) => (-3, 0),
+        };
+        Coefficient { whole, golden }
     }
 
     /// Its product with a + b φ, in two parts.
@@ -72,8 +49,7 @@ impl Coefficient {
         ensures whole { Small 512000000000000 result.0 }
         ensures golden { Small 512000000000000 result.1 }
     {
-        let whole = scaled(self.whole, a) + scaled(self.golden, b);
-        let golden = scaled(self.whole, b) + scaled(self.golden, a) + scaled(self.golden, b);
-        (whole, golden)
+        let (c, d) = (i64::from(self.whole), i64::from(self.golden));
+        (c * a + d * b, c * b + d * a + d * b)
     }
 }

@@ -2,6 +2,7 @@
 
 #![tactic(auto)]
 
+mod bounded;
 pub mod coefficient;
 pub mod golden;
 pub mod number;

@@ -1,34 +1,21 @@
 //! Whole numbers.
 
-ghost use Rattle.std.specs.Prelude.{◌≡◌, pos, negsuc, ◌≤ℤ◌};
-ghost use Rattle.coxeter.specs.Numbers.{Exact, integer};
-ghost use Rattle.numbers.specs.Kinds.{fits_whole, phi, Fitted};
+ghost use Rattle.coxeter.specs.Numbers.{integer};
+ghost use Rattle.numbers.specs.Kinds.{fits_whole};
 ghost use Rattle.std.proofs.Common.{rules};
 
+use crate::bounded::Bounded;
 use crate::coefficient::Coefficient;
 use crate::number::Number;
 
 /// A whole number of at most 10¹², either way.
 #[derive(Clone, Copy)]
 pub struct Whole {
-    a: i64,
-    ghost low: { negsuc 999999999999 ≤ℤ a },
-    ghost high: { a ≤ℤ pos 1000000000000 },
-}
-
-/// The number a, if it fits.
-fn bounded(a: i64) -> Option<Whole>
-    ensures { Fitted (λ x. integer x.a) fits_whole (integer a) result }
-{
-    if a < -1_000_000_000_000 || a > 1_000_000_000_000 {
-        None
-    } else {
-        Some(Whole { a })
-    }
+    a: Bounded<1_000_000_000_000>,
 }
 
 impl Number for Whole {
-    ghost value = { λ x. integer x.a };
+    ghost value = { λ x. integer x.a.value };
 
     ghost fits = { fits_whole };
 
@@ -41,18 +28,22 @@ impl Number for Whole {
     }
 
     fn one() -> Whole {
-        Whole { a: 1 }
+        Whole {
+            a: Bounded { value: 1 },
+        }
     }
 
     fn minus_multiple(self, c: Coefficient, by: Whole) -> Option<Whole> {
-        let (whole, golden) = c.times(by.a, 0);
+        let (whole, golden) = c.times(by.a.value, 0);
         if golden != 0 {
             return None;
         }
-        bounded(self.a - whole)
+        Some(Whole {
+            a: Bounded::new(self.a.value - whole)?,
+        })
     }
 
     fn is_negative(&self) -> bool {
-        self.a < 0
+        self.a.value < 0
     }
 }

@@ -6,7 +6,7 @@ ghost use Rattle.coxeter.specs.Tables.{cut};
 ghost use Rattle.coxeter.specs.Matrices.{matrix};
 
 use crate::group::Group;
-use crate::group::pairs::{LawfulPair, every_pair};
+use crate::group::pairs::Table;
 
 impl Group {
     /// Do the first rank entries of the first rank rows make a Coxeter matrix?
@@ -16,7 +16,9 @@ impl Group {
         if rank == 0 || rank > 8 {
             return false;
         }
-        every_pair::<LawfulPair>(rank, rows)
+        Table { rank, rows }.every_pair(|s, t, m, back| {
+            m == back && if s == t { m == 1 } else { m != 1 && m <= 6 }
+        })
     }
 
     /// The group of a checked table.

@@ -2,11 +2,12 @@
 
 ghost use Rattle.std.specs.Prelude.{◌≡◌, length, Decides};
 ghost use Rattle.coxeter.specs.Groups.{Letter, answered_exponent};
+ghost use Rattle.coxeter.specs.Tables.{cut};
 ghost use Rattle.coxeter.specs.Matrices.{matrix};
 ghost use Rattle.coxeter.specs.Pairs.{AllFinite, WithoutFive, Path};
 
 use crate::group::Group;
-use crate::group::pairs::{FinitePair, PairWithoutFive, PathPair, every_pair};
+use crate::group::pairs::Table;
 
 impl Group {
     /// How many letters the group has.
@@ -39,20 +40,36 @@ impl Group {
     pub fn all_finite(&self) -> bool
         ensures { Decides result (AllFinite (matrix self.now)) }
     {
-        every_pair::<FinitePair>(self.rank, &self.rows)
+        self.table().every_pair(|_, _, m, _| m != 0)
     }
 
     /// Is no exponent 5?
     pub fn without_five(&self) -> bool
         ensures { Decides result (WithoutFive (matrix self.now)) }
     {
-        every_pair::<PairWithoutFive>(self.rank, &self.rows)
+        self.table().every_pair(|_, _, m, _| m != 5)
     }
 
     /// Is this the group of type A, with 3 between s and s + 1 and 2 between all other unlike letters?
     pub fn is_path(&self) -> bool
         ensures { Decides result (Path (matrix self.now)) }
     {
-        every_pair::<PathPair>(self.rank, &self.rows)
+        self.table().every_pair(|s, t, m, _| {
+            m == match s.abs_diff(t) {
+                0 => 1,
+                1 => 3,
+                _ => 2,
+            }
+        })
+    }
+
+    /// The group's own table.
+    fn table(&self) -> Table<'_>
+        ensures { cut result.rank result.rows.now ≡ matrix self.now }
+    {
+        Table {
+            rank: self.rank,
+            rows: &self.rows,
+        }
     }
 }

@@ -1,14 +1,14 @@
 use Rattle.std.proofs.Common.{get_or, sym, ap, ◌∙◌, arith, rules, length-set}
 use Rattle.carriers.specs.Rows.{nought}
-use Rattle.carriers.proofs.Values.{written_more, value_read, taken_off_read}
+use Rattle.carriers.proofs.Values.{written_more, value_read, taken_more}
 use Rattle.carriers.proofs.point.step_point.Goals as goal
 
 pub loop-i-preserved : goal.loop-i-preserved
-loop-i-preserved g c =
-    let e = taken_off_read g.N.Number.value nought c.args.row.now c.args.column.now c.args.s c.loop-i.i c.x-item.result c.index-row-s.result (omega arith) (omega arith) c.x-item.is c.index-row-s.is in (
-      simp length-set c.loop-i.invariant.0,
-      written_more g.N.Number.value nought _ c.loop-i.fresh c.loop-i.i c.in_ok-fresh.field-0 (omega arith) c.loop-i.invariant.1 (search rules ∙ e),
-    )
+loop-i-preserved g c = (
+  simp length-set c.loop-i.invariant.0,
+  taken_more g.N.Number.value nought c.args.row.now c.loop-i.fresh c.args.column.now c.args.s c.loop-i.i c.x-item.result c.index-row-s.result c.in_ok-fresh.field-0 (omega arith) (omega arith) (omega arith) c.x-item.is c.index-row-s.is
+      (search rules) c.loop-i.invariant.1,
+)
 
 pub loop-k-preserved : goal.loop-k-preserved
 loop-k-preserved g c =

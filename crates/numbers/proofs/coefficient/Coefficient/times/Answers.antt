@@ -1,58 +1,71 @@
-use Rattle.std.proofs.Common.{◌≡◌, ℕ, ◌≤◌, ℤ, ◌+ℤ◌, ◌*ℤ◌, sym, ap, ◌∙◌, subst, arith, lit≤, w8, w64, SFits, to_z, of_z}
-use Rattle.std.proofs.lemmas.Int.{ints, to_z-of_z}
+use Rattle.std.proofs.Common.{◌≡◌, ℤ, ◌+ℤ◌, ◌*ℤ◌, sym, ap, ◌∙◌, subst, arith}
+use Rattle.std.proofs.lemmas.Int.{ints}
 use Rattle.numbers.specs.Kinds.{Small}
-use Rattle.numbers.proofs.Products.{held, small_held, sum_small, sum_fits, sum_held}
+use Rattle.coxeter.proofs.Exacts.{same_parts}
+use Rattle.numbers.proofs.Products.{held, held_product}
 use Rattle.numbers.proofs.coefficient.Coefficient.times.Goals as goal
 
--- the sums of two and of three products
-two : (x y : ℤ) → Small 128000000000000 x → Small 128000000000000 y → held (held x +ℤ held y) ≡ x +ℤ y
-two x y h k = sum_held 128000000000000 128000000000000 (lit≤ tt) x y h k
+-- the products and their sums in the machine's numbers
+module _ (c : goal.After-from-d) where
+  first : held c.from-c.result ≡ c.args.self.whole
+  first = omega (arith, ints)
 
-two_small : (x y : ℤ) → Small 128000000000000 x → Small 128000000000000 y → Small 256000000000000 (x +ℤ y)
-two_small x y h k = sum_small 128000000000000 128000000000000 x y h k
+  second : held c.from-d.result ≡ c.args.self.golden
+  second = omega (arith, ints)
 
-three : (x y z : ℤ) → Small 128000000000000 x → Small 128000000000000 y → Small 128000000000000 z → held (held (held x +ℤ held y) +ℤ held z) ≡ x +ℤ y +ℤ z
-three x y z h k l =
-    ap (λ (u : ℤ). held (u +ℤ held z)) (two x y h k ∙ sym (small_held 256000000000000 (x +ℤ y) (lit≤ tt) (two_small x y h k)))
-    ∙ sum_held 256000000000000 128000000000000 (lit≤ tt) (x +ℤ y) z (two_small x y h k) l
+  wa : Small 128000000000000 (held c.from-c.result *ℤ held c.args.a)
+  wa = held_product c.from-c.result c.args.a (record { low = omega (arith, ints); high = omega (arith, ints) }) c.requires.whole
 
-wider : (n : ℕ) (x : ℤ) → n ≤ 512000000000000 → Small n x → Small 512000000000000 x
-wider n x k h = record { low = omega (arith, ints); high = omega (arith, ints) }
+  gb : Small 128000000000000 (held c.from-d.result *ℤ held c.args.b)
+  gb = held_product c.from-d.result c.args.b (record { low = omega (arith, ints); high = omega (arith, ints) }) c.requires.golden
 
-pub overflow_add-whole : goal.overflow_add-whole
-overflow_add-whole c = sum_fits 128000000000000 128000000000000 (lit≤ tt) c.scaled.result c.scaled-2.result c.scaled.ensures.small c.scaled-2.ensures.small
+  wb : Small 128000000000000 (held c.from-c.result *ℤ held c.args.b)
+  wb = held_product c.from-c.result c.args.b (record { low = omega (arith, ints); high = omega (arith, ints) }) c.requires.golden
 
-pub overflow_add-golden : goal.overflow_add-golden
-overflow_add-golden c = sum_fits 128000000000000 128000000000000 (lit≤ tt) c.scaled-3.result c.scaled-4.result c.scaled-3.ensures.small c.scaled-4.ensures.small
+  ga : Small 128000000000000 (held c.from-d.result *ℤ held c.args.a)
+  ga = held_product c.from-d.result c.args.a (record { low = omega (arith, ints); high = omega (arith, ints) }) c.requires.whole
 
-pub overflow_add-golden-2 : goal.overflow_add-golden-2
-overflow_add-golden-2 c =
-    let p = two c.scaled-3.result c.scaled-4.result c.scaled-3.ensures.small c.scaled-4.ensures.small in
-    let s = two_small c.scaled-3.result c.scaled-4.result c.scaled-3.ensures.small c.scaled-4.ensures.small in
-    subst (λ (u : ℤ). SFits w64 (u +ℤ held c.scaled-5.result)) (small_held 256000000000000 _ (lit≤ tt) s ∙ sym p)
-    (sum_fits 256000000000000 128000000000000 (lit≤ tt) _ c.scaled-5.result s c.scaled-5.ensures.small)
+  two : held (held (held c.from-c.result *ℤ held c.args.a) +ℤ held (held c.from-d.result *ℤ held c.args.b)) ≡ held c.from-c.result *ℤ held c.args.a +ℤ held c.from-d.result *ℤ held c.args.b
+  two = omega (arith, ints, wa.low, wa.high, gb.low, gb.high)
 
--- a product's value, without the machine's words
-value_of : (k x z : ℤ) → SFits w8 k → SFits w64 x → z ≡ to_z w8 (of_z w8 k) *ℤ held x → z ≡ k *ℤ x
-value_of k x z f h e = e ∙ (λ i. to_z-of_z w8 k f i *ℤ to_z-of_z w64 x h i)
+  start : held (held (held c.from-c.result *ℤ held c.args.b) +ℤ held (held c.from-d.result *ℤ held c.args.a)) ≡ held c.from-c.result *ℤ held c.args.b +ℤ held c.from-d.result *ℤ held c.args.a
+  start = omega (arith, ints, wb.low, wb.high, ga.low, ga.high)
 
-pub returns : goal.returns
-returns c =
-    let x : ℤ = c.args.self.whole in
-    let y : ℤ = c.args.self.golden in
-    let fx : SFits w8 c.args.self.whole = omega (arith, ints) in
-    let fy : SFits w8 c.args.self.golden = omega (arith, ints) in
-    let wa = value_of c.args.self.whole c.args.a c.scaled.result fx c.ranges.a c.scaled.ensures.value in
-    let gb = value_of c.args.self.golden c.args.b c.scaled-2.result fy c.ranges.b c.scaled-2.ensures.value in
-    let wb = value_of c.args.self.whole c.args.b c.scaled-3.result fx c.ranges.b c.scaled-3.ensures.value in
-    let ga = value_of c.args.self.golden c.args.a c.scaled-4.result fy c.ranges.a c.scaled-4.ensures.value in
-    let gb' = value_of c.args.self.golden c.args.b c.scaled-5.result fy c.ranges.b c.scaled-5.ensures.value in
-    let p = two c.scaled.result c.scaled-2.result c.scaled.ensures.small c.scaled-2.ensures.small in
-    let q = three c.scaled-3.result c.scaled-4.result c.scaled-5.result c.scaled-3.ensures.small c.scaled-4.ensures.small c.scaled-5.ensures.small in
-    let s = two_small c.scaled.result c.scaled-2.result c.scaled.ensures.small c.scaled-2.ensures.small in
-    let u = sum_small 256000000000000 128000000000000 _ c.scaled-5.result (two_small c.scaled-3.result c.scaled-4.result c.scaled-3.ensures.small c.scaled-4.ensures.small) c.scaled-5.ensures.small in
-    record {
-      value = λ i. record { whole = (sym (p ∙ (λ j. wa j +ℤ gb j))) i; golden = (sym (q ∙ (λ j. wb j +ℤ ga j +ℤ gb' j))) i };
-      whole = subst (Small 512000000000000) (sym p) (wider 256000000000000 _ (lit≤ tt) s);
-      golden = subst (Small 512000000000000) (sym q) (wider 384000000000000 _ (lit≤ tt) u);
-    }
+  three : held (held (held (held c.from-c.result *ℤ held c.args.b) +ℤ held (held c.from-d.result *ℤ held c.args.a)) +ℤ held (held c.from-d.result *ℤ held c.args.b))
+      ≡ held c.from-c.result *ℤ held c.args.b +ℤ held c.from-d.result *ℤ held c.args.a +ℤ held c.from-d.result *ℤ held c.args.b
+  three = ap (λ (z : ℤ). held (z +ℤ held (held c.from-d.result *ℤ held c.args.b))) start ∙ omega (arith, ints, wb.low, wb.high, ga.low, ga.high, gb.low, gb.high)
+
+pub overflow_mul-result-3 : goal.overflow_mul-result-3
+overflow_mul-result-3 c = let p = wb c in omega (arith, ints)
+
+pub overflow_mul-result-4 : goal.overflow_mul-result-4
+overflow_mul-result-4 c = let p = ga c in omega (arith, ints)
+
+pub overflow_mul-result-5 : goal.overflow_mul-result-5
+overflow_mul-result-5 c = let p = gb c in omega (arith, ints)
+
+pub overflow_add-result : goal.overflow_add-result
+overflow_add-result c = let p = wa c in let q = gb c in omega (arith, ints)
+
+pub overflow_add-result-2 : goal.overflow_add-result-2
+overflow_add-result-2 c = let p = wb c in let q = ga c in omega (arith, ints)
+
+pub overflow_add-result-3 : goal.overflow_add-result-3
+overflow_add-result-3 c = let p = wb c in let q = ga c in let r = gb c in omega (arith, ints)
+
+pub returns-clause-whole : goal.returns-clause-whole
+returns-clause-whole c = let p = wa c in let q = gb c in record { low = omega (arith, ints); high = omega (arith, ints) }
+
+pub returns-clause-golden : goal.returns-clause-golden
+returns-clause-golden c = let p = wb c in let q = ga c in let r = gb c in subst (Small 512000000000000) (sym (three c)) (record { low = omega (arith, ints); high = omega (arith, ints) })
+
+pub returns-clause-value : goal.returns-clause-value
+returns-clause-value c = same_parts
+    ((λ i. sym (first c) i *ℤ a i +ℤ sym (second c) i *ℤ b i) ∙ sym (two c))
+    ((λ i. sym (first c) i *ℤ b i +ℤ sym (second c) i *ℤ a i +ℤ sym (second c) i *ℤ b i) ∙ sym (three c))
+  where
+    a : c.args.a ≡ held c.args.a
+    a = omega (arith, ints)
+
+    b : c.args.b ≡ held c.args.b
+    b = omega (arith, ints)

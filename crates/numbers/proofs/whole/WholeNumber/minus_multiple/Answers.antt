@@ -1,30 +1,30 @@
-use Rattle.std.proofs.Common.{◌≡◌, ℤ, pos, ◌-ℤ◌, sym, ap, ◌∙◌, arith, w64, of_z}
+use Rattle.std.proofs.Common.{◌≡◌, pos, ◌-ℤ◌, refl, ap, ◌∙◌, arith, w64, of_z}
+use Rattle.std.proofs.lemmas.Bool.{and_left}
 use Rattle.std.proofs.lemmas.Int.{ints}
-use Rattle.coxeter.specs.Numbers.{Exact, integer, minus, times}
-use Rattle.numbers.specs.Coefficients.{worth}
-use Rattle.numbers.specs.Kinds.{fits_whole}
+use Rattle.coxeter.specs.Numbers.{integer}
 use Rattle.numbers.proofs.Products.{held}
-use Rattle.numbers.proofs.Fitting.{fitted_minus, golden_misfit}
+use Rattle.numbers.proofs.Fitting.{fitted_product, none_fits, golden_misfit}
 use Rattle.numbers.proofs.whole.WholeNumber.minus_multiple.Goals as goal
 
 pub returns-then-golden-ne0 : goal.returns-then-golden-ne0
 returns-then-golden-ne0 c =
+    let e : held c.args.by.a.value ≡ c.args.by.a.value = omega (arith, ints) in
+    fitted_product _ (integer c.args.self.a.value) _ c.times-whole.result c.times-whole.ensures.value (λ i. integer (e i)) refl refl
+    (record { told = golden_misfit (c.args.self.a.value -ℤ c.times-whole.result.0) c.times-whole.result.1 (λ z. c.if-golden-ne0.true (ap (of_z w64) z)) })
+
+pub returns-in_err-new : goal.returns-in_err-new
+returns-in_err-new c =
     let r = c.times-whole.result in
-    let x = c.args.self in
-    let y = c.args.by in
-    let a : held y.a ≡ y.a = omega (arith, ints) in
-    let m : times (worth c.args.c) (integer y.a) ≡ record { whole = r.0; golden = r.1 } =
-    ap (λ (z : ℤ). times (worth c.args.c) (integer z)) (sym a) ∙ c.times-whole.ensures.value in
-    record { told = ap (λ (z : Exact). fits_whole (minus (integer x.a) z)) m ∙ golden_misfit (x.a -ℤ r.0) r.1 (λ e. c.if-golden-ne0.true (ap (of_z w64) e)) }
+    let e : held c.args.by.a.value ≡ c.args.by.a.value = omega (arith, ints) in
+    let p : held (held c.args.self.a.value -ℤ held r.0) ≡ c.args.self.a.value -ℤ r.0 = omega (arith, ints) in
+    let q : pos 0 ≡ pos 0 -ℤ r.1 = omega (arith, ints) in
+    fitted_product (integer _) (integer c.args.self.a.value) _ r c.times-whole.ensures.value (λ i. integer (e i)) p q
+    (none_fits _ c.from_residual.ensures (and_left _ _ c.in_err-new.ensures.none))
 
 pub returns : goal.returns
 returns c =
     let r = c.times-whole.result in
-    let x = c.args.self in
-    let y = c.args.by in
-    let a : held y.a ≡ y.a = omega (arith, ints) in
-    let p : held (held x.a -ℤ held r.0) ≡ x.a -ℤ r.0 = omega (arith, ints) in
+    let e : held c.args.by.a.value ≡ c.args.by.a.value = omega (arith, ints) in
+    let p : held (held c.args.self.a.value -ℤ held r.0) ≡ c.args.self.a.value -ℤ r.0 = omega (arith, ints) in
     let q : pos 0 ≡ pos 0 -ℤ r.1 = omega (arith, ints) in
-    let m : times (worth c.args.c) (integer y.a) ≡ record { whole = r.0; golden = r.1 } =
-    ap (λ (z : ℤ). times (worth c.args.c) (integer z)) (sym a) ∙ c.times-whole.ensures.value in
-    fitted_minus (integer x.a) (times (worth c.args.c) (integer y.a)) (record { whole = r.0; golden = r.1 }) c.bounded.ensures p q m
+    fitted_product (integer c.in_ok-new.field-0.value) (integer c.args.self.a.value) _ r c.times-whole.ensures.value (λ i. integer (e i)) (c.in_ok-new.ensures.some ∙ p) q (record { told = refl })

@@ -1,8 +1,7 @@
 use Rattle.std.proofs.Common.{map, arith}
 use Rattle.coxeter.specs.Matrices.{matrix}
-use Rattle.coxeter.proofs.Matrices.{lawful_of}
+use Rattle.coxeter.proofs.Matrices.{lawful_of, letter_within}
 use Rattle.carriers.specs.Rows.{numbers}
-use Rattle.carriers.specs.CarrierLaws.{matrix_rank}
 use Rattle.carriers.proofs.Standing.{descent_told}
 use Rattle.carriers.proofs.chamber.carrying.ChamberCarrier.descends.Goals as goal
 
@@ -10,9 +9,7 @@ pub is_negative_at-requires : goal.is_negative_at-requires
 is_negative_at-requires g c =
     let x = c.args.self.now in
     let k = c.has_letter.ensures.0 c.if-has_letter.true in
-    let n = matrix_rank x.group in
-    let w = x.wide in
-    let i = k.to_rank in (k.from_one, omega arith)
+    let w = x.wide in (k.from_one, omega (arith, letter_within x.group.rank x.group.rows c.args.s k))
 
 pub returns-then-has_letter-clause-told : goal.returns-then-has_letter-clause-told
 returns-then-has_letter-clause-told g c w h =

@@ -1,17 +1,18 @@
 use Rattle.std.proofs.Common.{◌+◌, [], ◌∷◌, ◌++◌, length, refl, arith}
 use Rattle.coxeter.specs.Matrices.{matrix}
-use Rattle.carriers.specs.CarrierLaws.{matrix_rank, letters_tested}
+use Rattle.coxeter.proofs.Matrices.{letter_within}
+use Rattle.carriers.specs.CarrierLaws.{letters_tested}
 use Rattle.carriers.proofs.Standing.{letters_snoc}
 use Rattle.carriers.proofs.Exchanges.{path_of, exchanged_stands, exchanged_beyond}
 use Rattle.carriers.proofs.one_line.carrying.OneLineCarrier.step.Goals as goal
 
 pub swap-requires-clause-a_in_bounds : goal.swap-requires-clause-a_in_bounds
 swap-requires-clause-a_in_bounds c =
-    let x = c.args.self.now in let k = c.has_letter.ensures.0 c.if-not-has_letter.false in let n = matrix_rank x.group in let w = x.wide in let i = k.to_rank in omega arith
+    let x = c.args.self.now in let w = x.wide in omega (arith, letter_within x.group.rank x.group.rows c.args.s (c.has_letter.ensures.0 c.if-not-has_letter.false))
 
 pub swap-requires-clause-b_in_bounds : goal.swap-requires-clause-b_in_bounds
 swap-requires-clause-b_in_bounds c =
-    let x = c.args.self.now in let k = c.has_letter.ensures.0 c.if-not-has_letter.false in let n = matrix_rank x.group in let w = x.wide in let i = k.to_rank in omega arith
+    let x = c.args.self.now in let w = x.wide in omega (arith, letter_within x.group.rank x.group.rows c.args.s (c.has_letter.ensures.0 c.if-not-has_letter.false))
 
 pub returns-clause-told : goal.returns-clause-told
 returns-clause-told c =

@@ -1,0 +1,8 @@
+use Rattle.std.proofs.Common.{◌≡◌, rules}
+use Rattle.coxeter.specs.Matrices.{matrix}
+use Rattle.coxeter.specs.Pairs.{path_exponent}
+use Rattle.coxeter.proofs.PairRules.{decided}
+use Rattle.coxeter.proofs.group.Group.is_path.Goals as goal
+
+pub returns : goal.returns
+returns c = decided c.every_pair.ensures (λ s t m back. m ≡ path_exponent s t) (matrix c.args.self.now) c.table.ensures (λ s t m back e. search rules) (λ s t m back e k. search rules)
