@@ -13,8 +13,8 @@ use Rattle.words.specs.declared.faults.WordFault.{WordFault}
 use Rattle.words.specs.Outcomes.{Passed, Measured, Written}
 use Rattle.words.specs.Promises.{FormTold, LengthTold, DistanceTold}
 
-pub told_of : (f : Frame) → Lawful f.group → (w : Word) (before after : List ℕ) (r : Result ℕ WordFault) → Written f w before after r → FormTold f.group w after r
-told_of f law w before after (Ok n) h =
+pub told_of : {f : Frame} → Lawful f.group → {w : Word} {before after : List ℕ} {r : Result ℕ WordFault} → Written f w before after r → FormTold f.group w after r
+told_of {f = f} law {w = w} {before = before} {after = after} {r = Ok n} h =
     let p = h.wrote.2 in
     let e : take n after ≡ h.wrote.0 = ap (λ (z : List ℕ). take n z) h.wrote.4 ∙ take_at h.wrote.0 (drop n before) n (sym h.wrote.3) in
     record {
@@ -24,24 +24,24 @@ told_of f law w before after (Ok n) h =
         λ u k i j. let d = forms_decide f.group law w u h.wrote.0 k p.entered.letters i p.formed j in (λ x. d.0 (sym e ∙ x), λ x. e ∙ d.1 x),
       );
     }
-told_of f law w before after (Err e) h = record { told = tt }
+told_of law {r = Err e} h = record { told = tt }
 
-pub lengths_of : (f : Frame) → Lawful f.group → (w : Word) (r : Result ℕ WordFault) → Measured f w r → LengthTold f.group w r
-lengths_of f law w (Ok n) h =
+pub lengths_of : {f : Frame} → Lawful f.group → {w : Word} {r : Result ℕ WordFault} → Measured f w r → LengthTold f.group w r
+lengths_of {f = f} law {w = w} {r = Ok n} h =
     let p = h.sized.1 in
     record { told = subst (λ (m : ℕ). LengthOf f.group w m) (sym h.sized.2) (forms_measure f.group law w h.sized.0 p.entered.letters p.formed) }
-lengths_of f law w (Err e) h = record { told = tt }
+lengths_of law {r = Err e} h = record { told = tt }
 
-pub apart_of : (f : Frame) → Lawful f.group → (u v : Word) (r : Result ℕ WordFault) → Measured f (reverse u ++ v) r → DistanceTold f.group u v r
-apart_of f law u v (Ok n) h =
+pub apart_of : {f : Frame} → Lawful f.group → (u v : Word) {r : Result ℕ WordFault} → Measured f (reverse u ++ v) r → DistanceTold f.group u v r
+apart_of {f = f} law u v {r = Ok n} h =
     let k = h.sized.1.entered.letters in
     let i : Letters f.group u = subst (Letters f.group) (reverse-reverse u) (letters_reverse f.group (reverse u) (letters_front f.group (reverse u) v k)) in
-    let l = (lengths_of f law (reverse u ++ v) (Ok n) h).told in
+    let l = (lengths_of law h).told in
     record { told = (l, distances_decide f.group law u v n i (letters_rest f.group (reverse u) v k) l) }
-apart_of f law u v (Err e) h = record { told = tt }
+apart_of law u v {r = Err e} h = record { told = tt }
 
 -- the letters read off fit a buffer that has room for the word
-pub read_fits : (f : Frame) → Lawful f.group → (w letters : Word) (n : ℕ) → Passed f w (reverse letters) → min (length w) 4096 ≤ n → length letters ≤ n
-read_fits f law w letters n p room =
+pub read_fits : {f : Frame} → Lawful f.group → {w : Word} (letters : Word) (n : ℕ) → Passed f w (reverse letters) → min (length w) 4096 ≤ n → length letters ≤ n
+read_fits {f = f} law {w = w} letters n p room =
     let few = p.entered.few in
     omega (arith, (forms_measure f.group law w (reverse letters) p.entered.letters p.formed).least w none, length-reverse letters)

@@ -4,7 +4,6 @@ use Rattle.std.specs.Bool.{MatchBool}
 use Rattle.std.proofs.lemmas.List.{reverse-reverse}
 use Rattle.std.proofs.lemmas.Bool.{both_ways}
 use Rattle.std.proofs.lemmas.Bool.Decides.{nat_tests}
-use Rattle.arrayvec.specs.ArrayVec.{ArrayVec}
 use Rattle.coxeter.specs.Groups.{Matrix, Lawful, Letter, rank, exponent, answered_exponent}
 use Rattle.coxeter.specs.Moves.{Word, Letters, Joined}
 use Rattle.coxeter.specs.Points.{Form}
@@ -63,17 +62,17 @@ group_decided g h p q e r d = (
     over s l = let x = l.from_one in let y = l.to_rank in record { from_one = omega arith; to_rank = omega arith }
 
 -- ---- elements
-module _ (e f : Frame) (law : Lawful e.group) (same : e.group ≡ f.group) (u v : Word) (a b : ArrayVec ℕ) (x : Read e u (Ok a)) (y : Read f v (Ok b)) where
+module _ (e f : Frame) (law : Lawful e.group) (same : e.group ≡ f.group) (u v a b : Word) (x : Read e u a (Ok tt)) (y : Read f v b (Ok tt)) where
   -- the letters read off are equal exactly when the words are joined
-  both : (a.items ≡ b.items) ↔ Joined e.group u v
+  both : (a ≡ b) ↔ Joined e.group u v
   both =
       let p = x.told in
       let q = y.told in
-      let k = forms_decide e.group law u v (reverse a.items) (reverse b.items) p.entered.letters (subst (λ (g : Matrix). Letters g v) (sym same) q.entered.letters) p.formed (subst (λ (g : Matrix). Form g v (reverse b.items)) (sym same) q.formed) in
-      (λ t. k.0 (ap reverse t), λ j. sym (reverse-reverse a.items) ∙ ap reverse (k.1 j) ∙ reverse-reverse b.items)
+      let k = forms_decide e.group law u v (reverse a) (reverse b) p.entered.letters (subst (λ (g : Matrix). Letters g v) (sym same) q.entered.letters) p.formed (subst (λ (g : Matrix). Form g v (reverse b)) (sym same) q.formed) in
+      (λ t. k.0 (ap reverse t), λ j. sym (reverse-reverse a) ∙ ap reverse (k.1 j) ∙ reverse-reverse b)
 
-  pub compared_same : a.items ≡ b.items → Compared e f u v (Ok Same)
-  compared_same d = record { compares = (same, (reverse a.items, x.told), (reverse b.items, y.told), both.0 d) }
+  pub compared_same : a ≡ b → Compared e f u v (Ok Same)
+  compared_same d = record { compares = (same, (reverse a, x.told), (reverse b, y.told), both.0 d) }
 
-  pub compared_unlike : ¬ (a.items ≡ b.items) → Compared e f u v (Ok Unlike)
-  compared_unlike d = record { compares = (same, (reverse a.items, x.told), (reverse b.items, y.told), λ j. d (both.1 j)) }
+  pub compared_unlike : ¬ (a ≡ b) → Compared e f u v (Ok Unlike)
+  compared_unlike d = record { compares = (same, (reverse a, x.told), (reverse b, y.told), λ j. d (both.1 j)) }

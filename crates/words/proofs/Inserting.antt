@@ -1,24 +1,19 @@
 -- A set that is filled letter by letter.
-use Rattle.std.proofs.Common.{◌≡◌, ℕ, ◌+◌, ◌<◌, ◌≤◌, true, false, ◌||◌, eqb, Decides, sym, ap, ◌∙◌, subst, ⊎_elim, arith}
+use Rattle.std.proofs.Common.{◌≡◌, ℕ, ◌+◌, ◌<◌, ◌≤◌, true, ◌||◌, eqb, Decides, sym, ◌∙◌, subst, ⊎_elim, arith}
 use Rattle.std.proofs.lemmas.Bool.{cases_eq, both_ways, or_cases, or_left, or_right, eqb-true, eq-eqb}
-use Rattle.coxeter.specs.Groups.{Matrix, Letter}
-use Rattle.coxeter.specs.Moves.{Word}
-use Rattle.coxeter.specs.Lengths.{Descends}
-use Rattle.words.specs.Sets.{has, Descending}
+use Rattle.words.specs.Sets.{has}
+use Rattle.words.proofs.Bits.{has_none}
 
 -- of the letters below s, exactly those with P are in the set
 pub record Filled (P : ℕ → Type 0) (bits s : ℕ) : Type 0 where
   pub byte : bits < 256
   pub exactly : (t : ℕ) → 1 ≤ t → t ≤ 8 → Decides (has bits t) ((t < s) × P t)
 
-has_zero : (b t : ℕ) → b ≡ 0 → has b t ≡ false
-has_zero b t e = grind (arith, e)
-
 module _ (P : ℕ → Type 0) (b s : ℕ) where
   pub filled_none : b ≡ 0 → s ≡ 1 → Filled P b s
   filled_none e q = record {
     byte = omega arith;
-    exactly = λ t i j. (λ h. absurd (both_ways (has b t) (has_zero b t e) h), λ p. let k = p.0 in absurd (omega arith));
+    exactly = λ t i j. (λ h. absurd (both_ways (has b t) (has_none b t e) h), λ p. let k = p.0 in absurd (omega arith));
   }
 
   -- s is one of them, and was put in

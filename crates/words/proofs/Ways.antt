@@ -1,5 +1,5 @@
 -- A carrier's way through a word.
-use Rattle.std.proofs.Common.{◌≡◌, ℕ, zero, suc, ◌+◌, ◌<◌, ◌≤◌, ◌≢◌, ◌⊎◌, Bool, true, false, [], ◌∷◌, ◌++◌, length, get_or, take, drop, Some, None, Ok, Err, Option, Result, sym, refl, ap, ◌∙◌, subst, ⊎_elim, arith, take_all}
+use Rattle.std.proofs.Common.{◌≡◌, ℕ, zero, suc, ◌+◌, ◌<◌, ◌≤◌, ◌≢◌, ◌⊎◌, true, false, [], ◌∷◌, ◌++◌, length, get_or, take, drop, Some, None, Ok, Err, Option, Result, sym, refl, ap, ◌∙◌, subst, ⊎_elim, arith, take_all}
 use Rattle.std.specs.List.{AllWithin, HoldsAt}
 use Rattle.std.specs.Option.{MatchOption}
 use Rattle.std.specs.Result.{is_ok}
@@ -13,7 +13,7 @@ use Rattle.carriers.specs.declared.faults.StepFault.{StepFault}
 use Rattle.carriers.specs.declared.faults.StepFault.TheVariants.{Letter as NoLetter, Reach as OutOfReach}
 use Rattle.words.specs.declared.faults.WordFault.{WordFault}
 use Rattle.words.specs.declared.faults.WordFault.TheVariants.{Reach}
-use Rattle.words.specs.Outcomes.{Prefixes, Overstepped}
+use Rattle.words.specs.Outcomes.{Prefixes}
 use Rattle.words.specs.Stepping.{Outsides, Arrived}
 
 -- ---- letters
@@ -57,13 +57,13 @@ pub record Passing {X : Type 0} (frame : X → Frame) (at : X → Word → Type 
   pub entered : Prefixes f.reach w k
   pub ahead : rest ≡ drop k w
 
-module _ {X : Type 0} (frame : X → Frame) (at : X → Word → Type 0) (f : Frame) (w : Word) where
-  pub pass_none : (x y : X) (k : ℕ) (rest : Word) → Laws (frame y) (at y) → BroughtHome frame at x y → frame x ≡ f → k ≡ 0 → rest ≡ w → Passing frame at f w y k rest
-  pass_none x y k rest law h e q d =
+module _ {X : Type 0} {frame : X → Frame} {at : X → Word → Type 0} {f : Frame} {w : Word} where
+  pub pass_none : {x y : X} {k : ℕ} {rest : Word} → Laws (frame y) (at y) → BroughtHome frame at x y → frame x ≡ f → k ≡ 0 → rest ≡ w → Passing frame at f w y k rest
+  pass_none {y = y} {rest = rest} law h e q d =
       let r : f.reach [] ≡ true = subst (λ (z : Frame). z.reach [] ≡ true) (h.same ∙ e) law.identity in
       subst (λ n. Passing frame at f w y n rest) (sym q) (record { same = h.same ∙ e; here = h.here; entered = λ i j. subst (λ n. f.reach (take n w) ≡ true) (let z : 0 ≡ i = omega arith in z) r; ahead = d })
 
-  module _ (x y : X) (k s : ℕ) (rest more : Word) (p : Passing frame at f w x k rest) (e : rest ≡ s ∷ more) where
+  module _ {x : X} {k s : ℕ} {rest more : Word} (p : Passing frame at f w x k rest) (e : rest ≡ s ∷ more) where
     below : k < length w
     below = omega (arith, length-drop k w, ap length (sym p.ahead ∙ e))
 
@@ -73,8 +73,8 @@ module _ {X : Type 0} (frame : X → Frame) (at : X → Word → Type 0) (f : Fr
     next : take k w ++ (s ∷ []) ≡ take (k + 1) w
     next = ap (λ z. take k w ++ (z ∷ [])) (sym now.0) ∙ sym (take_more w k 0 below)
 
-    pub pass_on : (r : Result (Unit {0}) StepFault) (j : ℕ) → Stepped frame at x y s r → is_ok r ≡ true → j ≡ k + 1 → Passing frame at f w y j more
-    pass_on (Ok _) j t o q =
+    pub pass_on : {y : X} {r : Result (Unit {0}) StepFault} {j : ℕ} → Stepped frame at x y s r → is_ok r ≡ true → j ≡ k + 1 → Passing frame at f w y j more
+    pass_on {y = y} {r = Ok _} t o q =
         let m = t.took.1 (take k w) p.here in
         let r : f.reach (take (k + 1) w) ≡ true = subst (λ v. f.reach v ≡ true) next (subst (λ (h : Frame). h.reach (take k w ++ (s ∷ [])) ≡ true) p.same m.0) in
         subst (λ n. Passing frame at f w y n more) (sym q) (record {
@@ -83,13 +83,13 @@ module _ {X : Type 0} (frame : X → Frame) (at : X → Word → Type 0) (f : Fr
           entered = λ i h. ⊎_elim (λ (d : i ≡ k + 1). subst (λ n. f.reach (take n w) ≡ true) (sym d) r) (λ d. p.entered i (omega arith)) (cases_eq i (k + 1));
           ahead = sym now.1;
         })
-    pass_on (Err e) j t o q = absurd (both_ways false refl o)
+    pass_on {r = Err e} t o q = absurd (both_ways false refl o)
 
     -- a step by a letter of the group is refused by the reach alone
-    pub pass_out : length w ≤ 4096 → Letters f.group w → (r : Result (Unit {0}) StepFault) (j : ℕ) (q : Result (Unit {0}) WordFault) → Stepped frame at x y s r → is_ok r ≡ false → j ≡ k → q ≡ Err (Reach j) → Arrived f (at y) w q
-    pass_out few l (Ok _) j q t o h d = absurd (both_ways true o refl)
-    pass_out few l (Err NoLetter) j q t o h d = absurd (t.took.1 (subst (λ (h : Frame). Letter h.group s) (sym p.same) (subst (λ z. Letter f.group z) now.0 (letters_at f.group w k l below))))
-    pass_out few l (Err OutOfReach) j q t o h d = subst (λ z. Arrived f (at y) w z) (sym (d ∙ ap (λ n. Err (Reach n)) h)) (record {
+    pub pass_out : length w ≤ 4096 → Letters f.group w → {y : X} {r : Result (Unit {0}) StepFault} {j : ℕ} {q : Result (Unit {0}) WordFault} → Stepped frame at x y s r → is_ok r ≡ false → j ≡ k → q ≡ Err (Reach j) → Arrived f (at y) w q
+    pass_out few l {r = Ok _} t o h d = absurd (both_ways true o refl)
+    pass_out few l {r = Err NoLetter} t o h d = absurd (t.took.1 (subst (λ (h : Frame). Letter h.group s) (sym p.same) (subst (λ z. Letter f.group z) now.0 (letters_at f.group w k l below))))
+    pass_out few l {y = y} {r = Err OutOfReach} t o h d = subst (λ z. Arrived f (at y) w z) (sym (d ∙ ap (λ n. Err (Reach n)) h)) (record {
       told = (
         few,
         record {
@@ -101,8 +101,8 @@ module _ {X : Type 0} (frame : X → Frame) (at : X → Word → Type 0) (f : Fr
       );
     })
 
-  pub pass_done : (x : X) (k : ℕ) (rest : Word) → Passing frame at f w x k rest → rest ≡ [] → length w ≤ 4096 → Letters f.group w → Arrived f (at x) w (Ok tt)
-  pass_done x k rest p d few letters =
+  pub pass_done : {x : X} {k : ℕ} {rest : Word} → Passing frame at f w x k rest → rest ≡ [] → length w ≤ 4096 → Letters f.group w → Arrived f (at x) w (Ok tt)
+  pass_done {x = x} {k = k} p d few letters =
       let e : length w ≤ k = omega (arith, length-drop k w, ap length (sym p.ahead ∙ d)) in
       record {
         told = (record { few = few; letters = letters; prefixes = λ i j. p.entered i (omega arith) }, subst (λ v. at x v) (take_all k w e) p.here);

@@ -1,6 +1,5 @@
 -- What the parts of the way down a word's form answer.
 use Rattle.std.specs.Prelude.{◌≡◌, ℕ, false, reverse, Some, None, Ok, Err, Option, Result}
-use Rattle.arrayvec.specs.ArrayVec.{ArrayVec}
 use Rattle.coxeter.specs.Numbers.{negative}
 use Rattle.coxeter.specs.Groups.{Matrix, Letter}
 use Rattle.coxeter.specs.Moves.{Word}
@@ -23,10 +22,10 @@ pub record Found (g : Matrix) (at : Word → Type 0) (r : Option ℕ) : Type 0 w
   pub found : (w : Word) → at w → LowestLetter g w r
 
 -- the form of w was read off, the last letter first, or w is refused
-abbrev pub ReadOff : Frame → Word → Result (ArrayVec ℕ) WordFault → Type 0
-ReadOff f w (Ok letters) = Passed f w (reverse letters.items)
-ReadOff f w (Err e) = Refused f w e
+abbrev pub ReadOff : Frame → Word → Word → Result (Unit {0}) WordFault → Type 0
+ReadOff f w letters (Ok _) = Passed f w (reverse letters)
+ReadOff f w letters (Err e) = Refused f w e
 
--- r tells what was read off
-pub record Read (f : Frame) (w : Word) (r : Result (ArrayVec ℕ) WordFault) : Type 0 where
-  pub told : ReadOff f w r
+-- r tells whether the letters were read off
+pub record Read (f : Frame) (w letters : Word) (r : Result (Unit {0}) WordFault) : Type 0 where
+  pub told : ReadOff f w letters r

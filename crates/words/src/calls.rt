@@ -13,6 +13,7 @@ use crate::faults::WordFault;
 use crate::reading::read_form;
 use crate::stepping::stand_at;
 use crate::view::Formed;
+use arrayvec::ArrayVec;
 use carriers::carrier::Carrier;
 
 /// The letters that descend where the carrier stands.
@@ -43,7 +44,8 @@ fn measure<C: Carrier>(carrier: &mut C, word: Formed) -> Result<usize, WordFault
     ensures home { BroughtHome C.Carrier.frame C.Carrier.at carrier.old carrier.new }
     ensures measured { Measured (C.Carrier.frame carrier.old) (letters_of word.entry) result }
 {
-    let letters = read_form(carrier, word)?;
+    let mut letters = ArrayVec::new();
+    read_form(carrier, word, &mut letters)?;
     Ok(letters.len())
 }
 
@@ -56,7 +58,8 @@ fn write<C: Carrier>(carrier: &mut C, word: Formed, out: &mut [u8]) -> Result<us
         carrier.home();
         return Err(WordFault::Short);
     }
-    let letters = read_form(carrier, word)?;
+    let mut letters = ArrayVec::new();
+    read_form(carrier, word, &mut letters)?;
     let form = &mut out[..letters.len()];
     form.copy_from_slice(letters.as_slice());
     form.reverse();

@@ -8,6 +8,7 @@ ghost use Rattle.words.specs.Promises.{Compared};
 use crate::faults::WordFault;
 use crate::reading::read_form;
 use crate::view::Formed;
+use arrayvec::ArrayVec;
 use carriers::carrier::Carrier;
 
 /// What is found of two words.
@@ -53,8 +54,10 @@ pub fn same_element<C: Carrier, D: Carrier>(
         c.home();
         return Ok(Comparison::OtherGroup);
     }
-    let a = read_form(c, Formed::Plain(u))?;
-    let b = read_form(d, Formed::Plain(v))?;
+    let mut a = ArrayVec::new();
+    let mut b = ArrayVec::new();
+    read_form(c, Formed::Plain(u), &mut a)?;
+    read_form(d, Formed::Plain(v), &mut b)?;
     if a == b {
         Ok(Comparison::Same)
     } else {

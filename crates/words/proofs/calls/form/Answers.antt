@@ -2,4 +2,4 @@ use Rattle.words.proofs.Answering.{told_of}
 use Rattle.words.proofs.calls.form.Goals as goal
 
 pub returns-clause-told : goal.returns-clause-told
-returns-clause-told g c = told_of (g.C.Carrier.frame c.args.carrier.now) (g.met.C.Carrier.laws c.args.carrier.now).lawful c.args.word.now c.args.out.now c.write.new.out c.write.result c.write.ensures.written
+returns-clause-told g c = told_of (g.met.C.Carrier.laws c.args.carrier.now).lawful c.write.ensures.written

@@ -1,6 +1,5 @@
 use Rattle.std.proofs.Common.{◌≤◌, length, sym, ap, ◌∙◌, arith}
 use Rattle.std.proofs.lemmas.List.{length-take-le}
-use Rattle.words.specs.Views.{letters_of}
 use Rattle.words.proofs.Answering.{read_fits}
 use Rattle.words.proofs.calls.write.Given.{Over}
 use Rattle.words.proofs.calls.write.Goals as goal
@@ -8,7 +7,7 @@ use Rattle.words.proofs.calls.write.Goals.{After-len-2}
 
 -- the buffer has room for the letters
 fits : (g : Over) (c : After-len-2 g) → c.len-2.result ≤ length c.args.out.now
-fits g c = omega (arith, read_fits (g.C.Carrier.frame c.args.carrier.now) (g.met.C.Carrier.laws c.args.carrier.now).lawful (letters_of c.args.word) c.in_ok-letters.letters.items (length c.args.out.now) c.in_ok-letters.ensures.read.told (omega arith))
+fits g c = omega (arith, read_fits (g.met.C.Carrier.laws c.args.carrier.now).lawful c.read_form.new.letters.items (length c.args.out.now) c.in_ok-read_form.ensures.read.told (omega arith))
 
 pub slice_bounds-form-end : goal.slice_bounds-form-end
 slice_bounds-form-end g c = fits g c

@@ -1,21 +1,15 @@
 use Rattle.std.proofs.Common.{rules, refl}
-use Rattle.std.specs.Iterator.Adapters.{enumerate_count}
-use Rattle.words.specs.Views.{letters_of}
 use Rattle.words.proofs.Ways.{pass_none, pass_on, pass_out, pass_done}
 use Rattle.words.proofs.stepping.step_through.Goals as goal
 
 pub loop-k-init : goal.loop-k-init
-loop-k-init g c =
-    pass_none g.C.Carrier.frame g.C.Carrier.at (g.C.Carrier.frame c.args.carrier.now) (letters_of c.args.word) c.args.carrier.now c.home.new.self _ _ (g.met.C.Carrier.laws c.home.new.self) c.home.ensures refl (search rules) (search rules)
+loop-k-init g c = pass_none (g.met.C.Carrier.laws c.home.new.self) c.home.ensures refl (search rules) (search rules)
 
 pub loop-k-preserved : goal.loop-k-preserved
-loop-k-preserved g c =
-    pass_on g.C.Carrier.frame g.C.Carrier.at (g.C.Carrier.frame c.args.carrier.now) (letters_of c.args.word) c.loop-k.carrier c.step.new.self _ c.in-Some.s _ _ c.loop-k.invariant c.in-Some.ensures.steps.0 c.step.result _ c.step.ensures (search rules) c.in-Some.ensures.steps.2
+loop-k-preserved g c = pass_on c.loop-k.invariant c.in-Some.ensures.steps.0 c.step.ensures (search rules) c.in-Some.ensures.steps.2
 
 pub returns-in_err-map_err-clause-arrived : goal.returns-in_err-map_err-clause-arrived
-returns-in_err-map_err-clause-arrived g c =
-    pass_out g.C.Carrier.frame g.C.Carrier.at (g.C.Carrier.frame c.args.carrier.now) (letters_of c.args.word) c.loop-k.carrier c.step.new.self _ c.in-Some.s _ _ c.loop-k.invariant c.in-Some.ensures.steps.0 c.requires.few c.requires.letters c.step.result c.in-Some.k _ c.step.ensures (search rules) c.in-Some.ensures.steps.1 (search rules)
+returns-in_err-map_err-clause-arrived g c = pass_out c.loop-k.invariant c.in-Some.ensures.steps.0 c.requires.few c.requires.letters c.step.ensures (search rules) c.in-Some.ensures.steps.1 (search rules)
 
 pub returns-clause-arrived : goal.returns-clause-arrived
-returns-clause-arrived g c =
-    pass_done g.C.Carrier.frame g.C.Carrier.at (g.C.Carrier.frame c.args.carrier.now) (letters_of c.args.word) c.loop-k.carrier _ _ c.loop-k.invariant c.in-None.ensures.steps.0.0 c.requires.few c.requires.letters
+returns-clause-arrived g c = pass_done c.loop-k.invariant c.in-None.ensures.steps.0.0 c.requires.few c.requires.letters
