@@ -1,3 +1,4 @@
 pub mod Faults
 pub mod WordJobs
 pub mod Answering
+pub mod Asking

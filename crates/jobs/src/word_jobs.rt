@@ -1,10 +1,12 @@
 // Jobs over words: the call on a carrier, and the line of its answer.
-// One function for several jobs would take the call as a closure over a carrier and a buffer: its contract would be longer than these bodies.
+// `length` and `distance` have only the last line in common, and one call of their own each: a function over a closure would be longer than both.
 // `heap` stays a parameter, as in every call of std that makes a value.
 ghost use Rattle.std.specs.Prelude.{◌≡◌, ◌++◌, map, reverse, codes};
+ghost use Rattle.coxeter.specs.Moves.{Word};
 ghost use Rattle.lines.specs.Letters.{letter_of};
 ghost use Rattle.jobs.specs.WordJobs.{DescentsJob, FormJob, NumberJob};
 ghost use Rattle.jobs.specs.Answering.{Answered, ByWord, Leaves};
+ghost use Rattle.jobs.specs.Asking.{Asks, WritesForm};
 
 use crate::errors::JobError;
 use crate::letters::letters;
@@ -12,6 +14,7 @@ use answers;
 use carriers::carrier::Carrier;
 use std::alloc::Global;
 use words::calls;
+use words::faults::WordFault;
 
 /// Answers `descents=WORD`.
 #[tactic(auto, using(crate::proofs::CallAnswers::descents_refused))]
@@ -24,32 +27,47 @@ pub fn descents<C: Carrier>(heap: Global, carrier: &mut C, bytes: &[u8]) -> Resu
     Ok(answers::descents(heap, set)?)
 }
 
-/// Answers `form=WORD`.
+// Answers a job by the form that the call writes into a buffer of 4,096 bytes.
 #[tactic(auto, using(crate::proofs::CallAnswers::form_refused))]
+fn by_form<C: Carrier, F: FnOnce(&mut C, &mut [u8]) -> Result<usize, WordFault>>(
+    heap: Global,
+    key: &str,
+    carrier: &mut C,
+    call: F,
+) -> Result<String, JobError>
+    requires called { F.IsAlwaysCallable call }
+    requires asks { Asks C.Carrier.frame C.Carrier.at (F.post call) }
+    ensures left { Leaves C.Carrier.frame C.Carrier.at carrier.old carrier.new result }
+    ensures answered { (w : Word) → WritesForm C.Carrier.frame (F.post call) w → Answered (ByWord (FormJob key.now (C.Carrier.frame carrier.old) w)) result }
+{
+    let mut out = [0; 4096];
+    let n = call(carrier, &mut out)?;
+    Ok(answers::form(heap, key, &out[..n])?)
+}
+
+/// Answers `form=WORD`.
 pub fn form<C: Carrier>(heap: Global, carrier: &mut C, bytes: &[u8]) -> Result<String, JobError>
     ensures left { Leaves C.Carrier.frame C.Carrier.at carrier.old carrier.new result }
     ensures answered { Answered (ByWord (FormJob (codes "form") (C.Carrier.frame carrier.old) (map letter_of bytes.now))) result }
 {
     let word = letters(heap, bytes)?;
-    let mut out = [0; 4096];
-    let n = calls::form(carrier, word.as_slice(), &mut out)?;
-    Ok(answers::form(heap, "form", &out[..n])?)
+    by_form(heap, "form", carrier, |carrier, out| {
+        calls::form(carrier, word.as_slice(), out)
+    })
 }
 
 /// Answers `inverse=WORD`.
-#[tactic(auto, using(crate::proofs::CallAnswers::form_refused))]
 pub fn inverse<C: Carrier>(heap: Global, carrier: &mut C, bytes: &[u8]) -> Result<String, JobError>
     ensures left { Leaves C.Carrier.frame C.Carrier.at carrier.old carrier.new result }
     ensures answered { Answered (ByWord (FormJob (codes "inverse") (C.Carrier.frame carrier.old) (reverse (map letter_of bytes.now)))) result }
 {
     let word = letters(heap, bytes)?;
-    let mut out = [0; 4096];
-    let n = calls::inverse(carrier, word.as_slice(), &mut out)?;
-    Ok(answers::form(heap, "inverse", &out[..n])?)
+    by_form(heap, "inverse", carrier, |carrier, out| {
+        calls::inverse(carrier, word.as_slice(), out)
+    })
 }
 
 /// Answers `product=U/V`.
-#[tactic(auto, using(crate::proofs::CallAnswers::form_refused))]
 pub fn product<C: Carrier>(
     heap: Global,
     carrier: &mut C,
@@ -61,9 +79,9 @@ pub fn product<C: Carrier>(
 {
     let u = letters(heap, first)?;
     let v = letters(heap, second)?;
-    let mut out = [0; 4096];
-    let n = calls::product(carrier, u.as_slice(), v.as_slice(), &mut out)?;
-    Ok(answers::form(heap, "product", &out[..n])?)
+    by_form(heap, "product", carrier, |carrier, out| {
+        calls::product(carrier, u.as_slice(), v.as_slice(), out)
+    })
 }
 
 /// Answers `length=WORD`.

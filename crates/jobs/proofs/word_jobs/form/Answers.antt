@@ -1,6 +1,6 @@
-use Rattle.std.proofs.Common.{codes, rules}
-use Rattle.jobs.proofs.CallAnswers.{form_answered}
+use Rattle.std.proofs.Common.{map, rules}
+use Rattle.lines.specs.Letters.{letter_of}
 use Rattle.jobs.proofs.word_jobs.form.Goals as goal
 
 pub returns-clause-answered : goal.returns-clause-answered
-returns-clause-answered g c = form_answered (codes "form") (search rules) c.in_ok-n.ensures.written c.in_ok-form.ensures
+returns-clause-answered g c = c.by_form.ensures.answered (map letter_of c.args.bytes.now) (search rules)
