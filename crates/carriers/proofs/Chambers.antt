@@ -1,5 +1,5 @@
 -- A step of a chamber, from the step of the front of its row.
-use Rattle.std.proofs.Common.{◌≡◌, ℕ, ◌-◌, ◌≤◌, Bool, true, List, [], ◌∷◌, ◌++◌, map, length, get_or, sym, refl, ap, ◌∙◌, subst, Ok, Err, Result, arith}
+use Rattle.std.proofs.Common.{◌≡◌, ℕ, ◌-◌, ◌≤◌, Bool, true, List, [], ◌∷◌, ◌++◌, map, length, get_or, sym, refl, ap, ◌∙◌, subst, Ok, Err, Result, MutBor, arith}
 use Rattle.std.proofs.lemmas.List.{map-append, length-map, get_or_append_left}
 use mathlib.Core.Logic.{∥∥₁_elim, ∥∥₁_prop}
 use mathlib.Core.HLevel.{Π_prop, is_prop→PathP}
@@ -32,6 +32,17 @@ exact_set x y p q i j = record {
 table_from : (g : Matrix) (columns : List (List Coefficient)) → ∥ Table g columns ∥₁ → Table g columns
 table_from g columns h = ∥∥₁_elim h (Π_prop λ s. Π_prop λ l. Π_prop λ a. Π_prop λ k. exact_set _ _) (λ x. x)
 
+-- a chamber whose row is as it was is the chamber that it was
+pub chamber_same : {N : Type 0} (x : Chamber N) (r : MutBor (List N)) (w : x.group.rank ≤ length r.now) (t : ∥ Table (cut x.group.rank x.group.rows) x.coefficients.columns ∥₁) → r ≡ x.row
+    → ◌≡◌ {A = Chamber N} (record { group = x.group; coefficients = x.coefficients; row = r; wide = w; table = t }) x
+chamber_same x r w t e i = record {
+  group = x.group;
+  coefficients = x.coefficients;
+  row = e i;
+  wide = is_prop→PathP (λ j. x.group.rank ≤ length (e j).now) (λ j. le_prop) w x.wide i;
+  table = ∥∥₁_prop t x.table i;
+}
+
 -- ---- the front of a row, where the letters have their numbers
 module _ {N : Type 0} (value : N → Exact) (g : Matrix) (front rest : List N) (long : rank g ≤ length front) where
   front_number : (a : ℕ) → Letter g a → numbers (map value (front ++ rest)) a ≡ numbers (map value front) a
@@ -53,16 +64,7 @@ module _ {N : Type 0} (value : N → Exact) (fits : Exact → Bool) (within : (z
   after = record { group = x.group; coefficients = x.coefficients; row = set_vals (front ++ rest) x.row; wide = w; table = t }
 
   after_same : front ≡ old → after ≡ x
-  after_same e i = record {
-    group = x.group;
-    coefficients = x.coefficients;
-    row = set_vals (row i) x.row;
-    wide = is_prop→PathP (λ j. x.group.rank ≤ length (row j)) (λ j. le_prop) w x.wide i;
-    table = ∥∥₁_prop t x.table i;
-  }
-    where
-      row : front ++ rest ≡ x.row.now
-      row = ap (λ l. l ++ rest) e ∙ apart
+  after_same e = chamber_same x (set_vals (front ++ rest) x.row) w t (ap (λ q. set_vals q x.row) (ap (λ l. l ++ rest) e ∙ apart))
 
   -- what the step of the front says of the chamber
   pub chamber_steps : (r : Result (Unit {0}) StepFault) → Advanced value fits (get_or x.coefficients.columns (s - 1) []) s old front r → Stepped (chamber_frame fits) (chamber_at value) x after s r

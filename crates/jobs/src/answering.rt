@@ -33,7 +33,7 @@ pub fn answer<C: Carrier>(heap: Global, carrier: &mut C, line: &[u8]) -> Result<
     ensures answered { Answered (LineAnswer (C.Carrier.frame carrier.old) line.now) result }
 {
     let Line::Job(job) = read(Due::Job, line)? else {
-        unreachable()
+        unreachable!()
     };
     answer_job(heap, carrier, job)
 }
