@@ -2,7 +2,7 @@
 
 #![tactic(auto)]
 
-ghost use Rattle.std.specs.Prelude.{◌≡◌, ℕ, length, Some, IfOk, string_bytes};
+ghost use Rattle.std.specs.Prelude.{◌≡◌, Some, IfOk, string_bytes};
 ghost use Rattle.coxeter.specs.Matrices.{matrix};
 ghost use Rattle.answers.specs.Texts.{refusal_text, form_text, letters_text, number_text, yes_no, GroupAnswer, DescentsAnswer};
 

@@ -41,6 +41,7 @@ impl Run<'_> {
     // Answers the lines behind the kind's.
     fn jobs<C: Carrier>(&mut self, carrier: &mut C) -> io::Result<()> {
         while !self.reader.is_done() {
+            // By matches and not `?`: a refusal is printed, and does not end the run.
             let line = match self.reader.next() {
                 Ok(line) => line,
                 Err(unfinished) => return self.refuse(&unfinished),

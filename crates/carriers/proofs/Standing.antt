@@ -1,20 +1,18 @@
 -- A row that shows the point of a word, and a step of it.
-use Rattle.std.proofs.Common.{◌≡◌, ℕ, zero, suc, ◌-◌, ◌<◌, ◌≤◌, Bool, true, false, ◌↔◌, List, [], ◌∷◌, ◌++◌, map, get_or, pos, Decides, sym, refl, ap, ◌∙◌, subst, ⊎_elim, arith}
-use Rattle.std.proofs.lemmas.Bool.{and_left, and_right, cases_eq, both_ways}
-use Rattle.coxeter.specs.declared.group.Group.{Group}
-use Rattle.coxeter.specs.Numbers.{Exact, integer, minus, times, negative}
+use Rattle.std.proofs.Common.{◌≡◌, ℕ, zero, suc, ◌-◌, ◌≤◌, Bool, true, false, ◌↔◌, List, [], ◌∷◌, ◌++◌, Decides, sym, refl, ap, ◌∙◌, subst, ⊎_elim, arith}
+use Rattle.std.proofs.lemmas.Bool.{and_left, and_right, cases_eq}
+use Rattle.coxeter.specs.Numbers.{Exact, minus, times, negative}
 use Rattle.coxeter.specs.Groups.{Matrix, Lawful, Letter, rank}
 use Rattle.coxeter.specs.Moves.{Word, Letters}
 use Rattle.coxeter.specs.Points.{Point, start, stepped, walked, point, coefficient}
 use Rattle.coxeter.specs.Lengths.{Descends}
-use Rattle.coxeter.specs.Matrices.{matrix}
 use Rattle.coxeter.proofs.Lengths.{signs_descend}
 use Rattle.numbers.specs.declared.coefficient.Coefficient.{Coefficient}
 use Rattle.carriers.specs.Frames.{Frame}
-use Rattle.carriers.specs.Rows.{fitting_frame, full_frame, nought, numbers, all_fit, letters_test, fitting, Shows}
+use Rattle.carriers.specs.Rows.{fitting_frame, full_frame, numbers, all_fit, letters_test, fitting, Shows}
 use Rattle.carriers.specs.Steps.{taken_off, Moved, Stuck}
 use Rattle.carriers.specs.Tables.{Column}
-use Rattle.carriers.specs.CarrierLaws.{letters_from, letters_tested, all_fit_at, fitting_parts, fitting_from, matrix_rank}
+use Rattle.carriers.specs.CarrierLaws.{letters_from, letters_tested, all_fit_at, fitting_parts, fitting_from}
 
 pub walked_snoc : (g : Matrix) (w : Word) (s : ℕ) (v : Point) → walked g (w ++ (s ∷ [])) v ≡ stepped g s (walked g w v)
 walked_snoc g [] s v = refl
@@ -30,9 +28,6 @@ descent_told g v w s r law l h e =
     let k = signs_descend g law w h.letters s l in
     let d : r ≡ negative (point g w s) = e ∙ ap negative (h.shown s l) in
     (λ t. (l, k.0 (sym d ∙ t)), λ p. d ∙ k.1 p.1)
-
-pub descent_outside : (g : Matrix) (w : Word) (s : ℕ) → ¬ Letter g s → Decides false (Letter g s × Descends g w s)
-descent_outside g w s n = (λ t. absurd (both_ways false refl t), λ p. absurd (n p.0))
 
 pub stepped_shown : (g : Matrix) (s : ℕ) (v : Point) (w : Word) → Letter g s → Shows g v w → (a : ℕ) → Letter g a → stepped g s v a ≡ point g (w ++ (s ∷ [])) a
 stepped_shown g s v w k h a j =
@@ -84,6 +79,3 @@ fitting_exactly fits g h e w =
 -- the reach of one-line notation whose frame is that of the group g, in full
 pub full_exactly : (g h : Matrix) → full_frame h ≡ full_frame g → (w : Word) → (letters_test h w ≡ true) ↔ Letters g w
 full_exactly g h e w = subst (λ (f : Frame). (f.reach w ≡ true) ↔ Letters g w) (sym e) (letters_from g w, letters_tested g w)
-
-pub home_shows : {N : Type 0} (value : N → Exact) (gr : Group) (row : List N) → ((i : ℕ) → i < gr.rank → get_or (map value row) i nought ≡ integer (pos 1)) → Shows (matrix gr) (numbers (map value row)) []
-home_shows value gr row h = record { letters = tt; shown = λ a k. h (a - 1) (let r = matrix_rank gr in let b = k.from_one in let c = k.to_rank in omega arith) }

@@ -19,7 +19,7 @@ fn column_of(group: &Group, s: u8) -> [Coefficient; 8]
 }
 
 /// The coefficients of a group: c(a,s) stands at columns[s − 1][a − 1].
-// A fixed table: there is no heap here.
+// A fixed table: a column for each letter that a rank can have.
 #[derive(Clone, Copy)]
 pub(crate) struct Coefficients {
     pub(crate) columns: [[Coefficient; 8]; 8],

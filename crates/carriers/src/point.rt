@@ -14,10 +14,7 @@ pub(crate) fn set_start<N: Number>(row: &mut [N])
     ensures { (i : ℕ) → i < length row.old → slice_index_or (map N.Number.value row.new) i nought ≡ integer (pos 1) }
 {
     let one = N::one();
-    // Not `fill`: it asks that a clone cannot fail, which `Copy` does not say of a kind of number.
-    for x in row.iter_mut() {
-        *x = one;
-    }
+    row.fill_with(|| one);
 }
 
 /// Is the number of the letter s negative?
@@ -39,6 +36,7 @@ pub(crate) fn step_point<N: Number>(
     ensures { Advanced N.Number.value N.Number.fits column.now s row.old row.new result }
 {
     let by = row[s as usize - 1];
+    // By index and not `zip`, which takes a generic array by value and leaves the goals of its drop open.
     let mut fresh = [by; 8];
     for (i, x) in row.iter().enumerate() {
         fresh[i] = x.minus_multiple(column[i], by).ok_or(StepFault::Reach)?;

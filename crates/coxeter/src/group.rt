@@ -9,7 +9,7 @@ ghost use Rattle.coxeter.specs.Groups.{Lawful};
 ghost use Rattle.coxeter.specs.Tables.{cut};
 
 /// A Coxeter group of rank 1 to 8: the exponent of the letters s and t stands at rows[s - 1][t - 1], 0 for inf.
-// A fixed table with the rank beside it: there is no heap here, and a group is copied.
+// A fixed table with the rank beside it: a group is copied.
 #[derive(Clone, Copy)]
 pub struct Group {
     rank: u8,

@@ -9,5 +9,5 @@ use std::alloc::{AllocError, Global};
 pub fn letters(heap: Global, bytes: &[u8]) -> Result<Vec<u8>, AllocError>
     ensures { IfOk result (λ v. v.items ≡ map letter_of bytes.now) }
 {
-    bytes.iter().map(|byte| letter(*byte)).collect(heap)
+    bytes.iter().copied().map(letter).collect(heap)
 }

@@ -1,7 +1,8 @@
 // Jobs over words: the call on a carrier, and the line of its answer.
-// `length` and `distance` have only the last line in common, and one call of their own each: a function over a closure would be longer than both.
-// `heap` stays a parameter, as in every call of std that makes a value.
-ghost use Rattle.std.specs.Prelude.{◌≡◌, ◌++◌, map, reverse, codes};
+// `length` and `distance` have only their last line in common: a function over a closure, as `by_form`, would save one line of each.
+// `heap` and `carrier` stay parameters: in a struct over them each clause would name the carrier by `self.new.carrier.now`. How the
+// carrier is left is a fact of before and after, so each function says it.
+ghost use Rattle.std.specs.Prelude.{◌++◌, map, reverse, codes};
 ghost use Rattle.coxeter.specs.Moves.{Word};
 ghost use Rattle.lines.specs.Letters.{letter_of};
 ghost use Rattle.jobs.specs.WordJobs.{DescentsJob, FormJob, NumberJob};

@@ -11,7 +11,7 @@ pub fn cut(s: &[u8], b: u8) -> Option<(&[u8], &[u8])>
 }
 
 /// Whether the two texts have the same bytes.
-// The code compares by `==` and by patterns; this is `==` as a call with a contract of its own.
+// A public promise, which stays: the code here compares by `==` and by patterns.
 pub fn same(a: &[u8], b: &[u8]) -> bool
     ensures { Decides result (a.now ≡ b.now) }
 {

@@ -46,6 +46,7 @@ pub fn split(line: &[u8]) -> Option<(&[u8], &[u8])>
 }
 
 /// The line that the bytes spell where `due` is due.
+// Which line is due goes in and that case comes out: one enum of lines, whose cases borrow from the input, serves every caller.
 pub fn read<'a>(due: Due, line: &'a [u8]) -> Result<Line<'a>, LineFault>
     ensures { MatchResult result (Reads due line.now) (λ e. (e ≡ LineFault.Unexpected) × NoReading due line.now) }
 {

@@ -1,7 +1,7 @@
 //! The factors c(s,t) of a group's steps.
 
-ghost use Rattle.std.specs.Prelude.{◌≡◌, ◌*ℤ◌};
-ghost use Rattle.coxeter.specs.Numbers.{Exact, times};
+ghost use Rattle.std.specs.Prelude.{◌≡◌};
+ghost use Rattle.coxeter.specs.Numbers.{times};
 ghost use Rattle.coxeter.specs.Points.{coefficient_of};
 ghost use Rattle.numbers.specs.Coefficients.{worth, zero};
 ghost use Rattle.numbers.specs.Kinds.{Small};
@@ -15,7 +15,7 @@ pub struct Coefficient {
 
 impl Coefficient {
     /// The coefficient 0.
-    // Not a derived Default: the name says which coefficient it is.
+    // A public promise, which stays; a derived Default would not say by its name which coefficient it is.
     pub fn zero() -> Coefficient
         ensures { result ≡ zero }
     {

@@ -8,7 +8,7 @@ use crate::kinds::Kind;
 use coxeter::group::Group;
 
 /// A draft that wants its next row: its rank is known, and the first `done` rows are there.
-// A fixed table, which becomes the group's: there is no heap here.
+// A fixed table, since it becomes the group's: a vector of rows would have to be filled up again.
 #[derive(Drop)]
 pub struct RowsDraft {
     pub(crate) rank: u8,

@@ -36,6 +36,7 @@ impl RowsDraft {
     }
 
     // Where the first exponent stands that may not stand in the next row: its place in the row's bytes.
+    // A place or none, as a search answers it: `add` makes the fault of it.
     pub(crate) fn misfit(&self, row: &[u8]) -> Option<usize>
         requires { length row.now ≤ 8 }
         ensures { MatchOption result (AllExponentsFit self.now.rows self.now.done row.now (length row.now)) (Misfit self.now.rows self.now.done row.now) }

@@ -66,7 +66,8 @@ fn write<C: Carrier>(carrier: &mut C, word: Formed, out: &mut [u8]) -> Result<us
     Ok(letters.len())
 }
 
-// The five calls below are each one line over `write` or `measure`: each has a name and a law of its own.
+// The five calls below are each one line over `write` or `measure`: each has a name and a law of its own. That the carrier is
+// brought home is a fact of before and after, so each says it; no type can.
 
 /// The form of the word's element, at the front of `out`, and its letter count.
 pub fn form<C: Carrier>(carrier: &mut C, word: &[u8], out: &mut [u8]) -> Result<usize, WordFault>

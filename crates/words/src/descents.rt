@@ -1,6 +1,6 @@
 //! The set of the descending letters.
 
-ghost use Rattle.std.specs.Prelude.{◌≡◌, ℕ, ◌<◌, ◌≤◌, false, ◌||◌, length, ◌==◌};
+ghost use Rattle.std.specs.Prelude.{◌≡◌, ℕ, ◌<◌, ◌≤◌, ◌||◌, length, ◌==◌};
 ghost use Rattle.words.specs.Sets.{has, letters_in, LeastIn};
 
 /// A set of letters in one byte: letter s is worth 2 to the power s − 1.

@@ -24,11 +24,11 @@ impl Refusal for WordFault {
     ghost reported = { word_report };
 
     fn report(&self) -> Report {
-        let (number, place) = match self {
+        let (number, place) = match *self {
             WordFault::Short => (9, 0),
             WordFault::TooLong => (8, 4096),
-            WordFault::Letter(index) => (7, *index),
-            WordFault::Reach(index) => (11, *index),
+            WordFault::Letter(index) => (7, index),
+            WordFault::Reach(index) => (11, index),
         };
         Report {
             number,

@@ -10,12 +10,15 @@ use crate::view::Formed;
 use carriers::carrier::Carrier;
 
 /// The index of the first letter that is none of the group's.
+// An index or none, as `position` answers it: a function that made the fault of it would be longer, and so its proof.
 fn first_outside<C: Carrier>(carrier: &C, mut word: Formed) -> Option<usize>
     ensures { Outside (C.Carrier.frame carrier.now).group (letters_of word.entry) result }
 {
     let n = carrier.rank();
-    word.position(|s| s == 0 || s > n)
+    word.position(|s| !(1..=n).contains(&s))
 }
+
+// The frame stays in each step of the walk, which ends away from home; only the calls above say that the carrier is brought home.
 
 /// Brings the carrier home and steps it through the word.
 fn step_through<C: Carrier>(carrier: &mut C, word: Formed) -> Result<(), WordFault>

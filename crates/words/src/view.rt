@@ -40,6 +40,7 @@ impl<'a> Iterator for Formed<'a> {
         match self {
             Formed::Plain(a) => a.split_off_first().copied(),
             Formed::Reversed(a) => a.split_off_last().copied(),
+            // By a match: nothing is known of `b` behind an `or_else` whose closure changes it.
             Formed::Joined(a, b) => match a.split_off_first() {
                 Some(s) => Some(*s),
                 None => b.split_off_first().copied(),

@@ -18,7 +18,7 @@ impl<'a, N: Number> Carrier for Chamber<'a, N> {
 
     ghost laws = { λ c. chamber_laws N.Number.value c.group c.row.now c.wide N.Number.fits N.Number.unit N.Number.within };
 
-    // rank and exponent hand on to the group; the trait cannot do it, since where a carrier keeps its group is its own.
+    // rank and exponent hand on to the group. The trait provides neither, since then every carrier had to hold a `Group`.
     fn rank(&self) -> u8 {
         self.group.rank()
     }

@@ -17,7 +17,7 @@ impl<'a> Carrier for OneLine<'a> {
 
     ghost laws = { λ c. line_laws c.group c.row.now };
 
-    // rank and exponent hand on to the group; the trait cannot do it, since where a carrier keeps its group is its own.
+    // rank and exponent hand on to the group. The trait provides neither, since then every carrier had to hold a `Group`.
     fn rank(&self) -> u8 {
         self.group.rank()
     }
