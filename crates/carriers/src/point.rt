@@ -36,12 +36,12 @@ pub(crate) fn step_point<N: Number>(
     ensures { Advanced N.Number.value N.Number.fits column.now s row.old row.new result }
 {
     let by = row[s as usize - 1];
-    // By index and not `zip`, which takes a generic array by value and leaves the goals of its drop open.
+    // `fresh` is read and written by index, in one function: a generic array can be neither lent as a slice, nor zipped, nor
+    // answered without a proof that its type is small.
     let mut fresh = [by; 8];
     for (i, x) in row.iter().enumerate() {
         fresh[i] = x.minus_multiple(column[i], by).ok_or(StepFault::Reach)?;
     }
-    // Not `copy_from_slice`: a generic array is lent as a slice only with a proof that its type is small.
     for (k, x) in row.iter_mut().enumerate() {
         *x = fresh[k];
     }
