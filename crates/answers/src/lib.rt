@@ -28,7 +28,7 @@ pub fn refusal<F: Refusal>(heap: Global, refused: &Located<F>) -> Result<String,
 }
 
 // The answer to a question.
-// Not Display: `bool` has its own words, and these are the format's.
+// Not Display: `bool` has its own words, and these are the format's. Inlined, two cases of the proof stay open.
 fn yes_or_no(answer: bool) -> &'static str
     ensures { result.now ≡ yes_no answer }
 {

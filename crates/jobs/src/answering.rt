@@ -9,6 +9,8 @@ use lines::keys::read;
 use lines::line::{Due, Job, Line};
 use std::alloc::Global;
 
+// heap and carrier stay parameters, for the reason that stands in word_jobs.rt.
+
 // The answer to a job. A job whose call is not there yet is answered as a line whose key is not due.
 fn answer_job<C: Carrier>(heap: Global, carrier: &mut C, job: Job) -> Result<String, JobError>
     ensures left { Leaves C.Carrier.frame C.Carrier.at carrier.old carrier.new result }

@@ -41,6 +41,7 @@ fn by_form<C: Carrier, F: FnOnce(&mut C, &mut [u8]) -> Result<usize, WordFault>>
     ensures left { Leaves C.Carrier.frame C.Carrier.at carrier.old carrier.new result }
     ensures answered { (w : Word) → WritesForm C.Carrier.frame (F.post call) w → Answered (ByWord (FormJob key.now (C.Carrier.frame carrier.old) w)) result }
 {
+    // The call writes at the front of a buffer and answers its length: that is the interface of form.
     let mut out = [0; 4096];
     let n = call(carrier, &mut out)?;
     Ok(answers::form(heap, key, &out[..n])?)

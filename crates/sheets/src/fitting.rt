@@ -23,7 +23,7 @@ fn written(row: &[u8]) -> usize
 }
 
 impl RowsDraft {
-    // Whether `e` may stand in the next row at column `c`.
+    // Whether `e`, a number as above, may stand in the next row at column `c`.
     fn fits(&self, c: usize, e: u8) -> bool
         ensures { Decides result (Fits self.now.rows self.now.done c e) }
     {

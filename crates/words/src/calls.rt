@@ -39,6 +39,8 @@ pub fn descents<C: Carrier>(carrier: &mut C, word: &[u8]) -> Result<Descents, Wo
     set
 }
 
+// The carrier and the word formed stay parameters: over a struct each clause would name the carrier by `self.new.carrier.now`.
+
 /// The letter count of the form of the word formed.
 fn measure<C: Carrier>(carrier: &mut C, word: Formed) -> Result<usize, WordFault>
     ensures home { BroughtHome C.Carrier.frame C.Carrier.at carrier.old carrier.new }

@@ -20,7 +20,8 @@ fn least_descending<C: Carrier>(carrier: &C) -> Option<u8>
 }
 
 // The carrier, the word and the letters stay parameters: in a struct over them each clause would name the carrier by
-// `self.new.carrier.now`, and say besides that the word and what is lent stay the same.
+// `self.new.carrier.now`, and say besides that the word and what is lent stay the same. The frame stays in each step of the walk
+// (`same`), which ends away from home.
 
 /// Takes the least descending letter off again and again: the letters of the form, the last first.
 fn take_off<C: Carrier>(

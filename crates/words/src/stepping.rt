@@ -9,6 +9,8 @@ use crate::faults::WordFault;
 use crate::view::Formed;
 use carriers::carrier::Carrier;
 
+// The carrier and the word formed stay parameters: over a struct each clause would name the carrier by `self.new.carrier.now`.
+
 /// The index of the first letter that is none of the group's.
 // An index or none, as `position` answers it: a function that made the fault of it would be longer, and so its proof.
 fn first_outside<C: Carrier>(carrier: &C, mut word: Formed) -> Option<usize>
