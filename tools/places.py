@@ -27,7 +27,7 @@ PATTERNS = [
     (2, "one question of two groups or carriers", r"fn (same_exponents|same_group)<"),
     (2, "what both carriers write", r"(chamber|one_line)/.*fn (rank|exponent|descends|step|check)\("),
     (2, "the jobs on each kind of carrier", r"fn on_(chamber|line)\b"),
-    (3, "a loop that counts an index", r":\s*for \w+ in [01]\.\."),
+    (3, "a loop that counts an index", r":\s*for [a-z]\w* in [01]\.\."),
     (3, "a loop with a counter beside it", r":\s*(while let Some\(s\) = least|for \(\w+, \w+\) in .*enumerate)"),
     (4, "texts of bytes compared by a function", r"\bsame\("),
     (4, "fronts of buffers compared by hand", r"fn equal_fronts\b"),

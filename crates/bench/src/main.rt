@@ -72,11 +72,7 @@ fn mixed(heap: Global, rank: u8, letters: usize) -> Result<Vec<u8>, AllocError> 
 // The letters 1 to 8 up and down again, so that a group without relations stays in reach.
 fn up_and_down(heap: Global, letters: usize) -> Result<Vec<u8>, AllocError> {
     let turn = [1, 2, 3, 4, 5, 6, 7, 8, 8, 7, 6, 5, 4, 3, 2, 1];
-    let mut word = Vec::new(heap);
-    for k in 0..letters {
-        word.push(turn[k % 16])?;
-    }
-    Ok(word)
+    (0..letters).map(|k| turn[k % 16]).collect(heap)
 }
 
 // The sum of the letter counts of so many forms of the word, or nothing where a check refuses.
