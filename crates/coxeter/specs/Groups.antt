@@ -9,7 +9,7 @@ Matrix = List (List ℕ)
 abbrev pub rank : Matrix → ℕ
 rank g = length g
 
--- the exponent of the letters s and t
+-- the exponent of the letters s and t; meant for letters only: outside the table it is 255, and number 0 reads as letter 1 does
 abbrev pub exponent : Matrix → ℕ → ℕ → ℕ
 exponent g s t = slice_index_or (slice_index_or g (s - 1) []) (t - 1) 255
 

@@ -62,3 +62,21 @@ check_below = refl
 -- 5 - 3 φ > 0
 check_above : negative (record { whole = pos 5; golden = negsuc 2 }) ≡ false
 check_above = refl
+
+-- -2 + φ < 0 and 0 < -1 + φ
+check_first : negative (record { whole = negsuc 1; golden = pos 1 }) ≡ true
+check_first = refl
+
+check_not_first : negative (record { whole = negsuc 0; golden = pos 1 }) ≡ false
+check_not_first = refl
+
+-- -1 - φ < 0, and 0 is not negative
+check_neither : negative (record { whole = negsuc 0; golden = negsuc 0 }) ≡ true
+check_neither = refl
+
+check_zero : negative (integer (pos 0)) ≡ false
+check_zero = refl
+
+-- φ * φ = φ + 1
+check_golden : times (record { whole = pos 0; golden = pos 1 }) (record { whole = pos 0; golden = pos 1 }) ≡ record { whole = pos 1; golden = pos 1 }
+check_golden = refl

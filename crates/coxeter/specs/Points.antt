@@ -1,5 +1,5 @@
 -- The point of a word, and the form that is read off it.
-use Rattle.std.specs.Prelude.{◌≡◌, ℕ, zero, suc, ◌<◌, Bool, true, false, cond, [], ◌∷◌, ◌++◌, pos, negsuc, nat_lt}
+use Rattle.std.specs.Prelude.{◌≡◌, ℕ, zero, suc, ◌<◌, Bool, true, false, cond, [], ◌∷◌, ◌++◌, pos, negsuc, nat_lt, refl}
 use Rattle.coxeter.specs.Numbers.{Exact, integer, minus, times, negative}
 use Rattle.coxeter.specs.Groups.{Matrix, Letter, exponent}
 use Rattle.coxeter.specs.Moves.{Word}
@@ -13,6 +13,16 @@ coefficient_of (suc (suc (suc zero))) up = integer (negsuc 0)
 coefficient_of (suc (suc (suc (suc zero)))) up = cond up (integer (negsuc 0)) (integer (negsuc 1))
 coefficient_of (suc (suc (suc (suc (suc zero))))) up = record { whole = pos 0; golden = negsuc 0 }
 coefficient_of (suc (suc (suc (suc (suc (suc n)))))) up = cond up (integer (negsuc 0)) (integer (negsuc 2))
+
+-- at 4 and at 6 the greater letter is the one that takes more off; at 0, which is inf, both take two
+check_four : (coefficient_of 4 true ≡ integer (negsuc 0)) × (coefficient_of 4 false ≡ integer (negsuc 1))
+check_four = (refl, refl)
+
+check_six : (coefficient_of 6 true ≡ integer (negsuc 0)) × (coefficient_of 6 false ≡ integer (negsuc 2))
+check_six = (refl, refl)
+
+check_inf : (coefficient_of 0 true ≡ integer (negsuc 1)) × (coefficient_of 0 false ≡ integer (negsuc 1))
+check_inf = (refl, refl)
 
 -- c(s, t)
 abbrev pub coefficient : Matrix → ℕ → ℕ → Exact
