@@ -10,7 +10,7 @@ returns g c = record {
   found = λ w h.
       let Yes = λ (s : ℕ). Falls (g.C.Carrier.frame c.args.carrier.now) w s in
       let No = λ (s : ℕ). Falls (g.C.Carrier.frame c.args.carrier.now) w s → ⊥ in
-      lowest (g.C.Carrier.frame c.args.carrier.now) (g.C.Carrier.at c.args.carrier.now) (g.met.C.Carrier.laws c.args.carrier.now) w h c.rank.result c.rank.ensures c.find.result
+      lowest (g.C.Carrier.frame c.args.carrier.now) (g.C.Carrier.at c.args.carrier.now) (g.met.C.Carrier.laws c.args.carrier.now) w h c.rank.result c.rank.ensures.told c.find.result
       (found c.rank.result c.find.result Yes No
       (first_from_find c.find.new.self _ _ Yes No c.find.ensures.ran (counts c.rank.result _ c.new.ensures.start c.new.ensures.end c.new.ensures.exhausted) (λ x q k. search (rules, tests)) (λ x q k. search (rules, tests))));
 }

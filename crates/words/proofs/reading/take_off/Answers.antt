@@ -19,10 +19,10 @@ pub loop-s-smaller : goal.loop-s-smaller
 loop-s-smaller g c = omega (arith, room g (goal.at.loop-s-smaller g c).In-Some)
 
 pub loop-s-preserved : goal.loop-s-preserved
-loop-s-preserved g c = take_more c.loop-s.invariant (g.met.C.Carrier.laws c.loop-s.carrier) c.in-Some.ensures c.step.ensures (search rules) c.push.ensures.items
+loop-s-preserved g c = take_more c.loop-s.invariant (g.met.C.Carrier.laws c.loop-s.carrier) c.in-Some.ensures c.step.ensures.told (search rules) c.push.ensures.items
 
 pub returns-in_err-map_err-clause-read : goal.returns-in_err-map_err-clause-read
-returns-in_err-map_err-clause-read g c = take_fails c.loop-s.invariant (g.met.C.Carrier.laws c.loop-s.carrier) c.in-Some.ensures c.requires.entered c.step.ensures (search rules) (search rules)
+returns-in_err-map_err-clause-read g c = take_fails c.loop-s.invariant (g.met.C.Carrier.laws c.loop-s.carrier) c.in-Some.ensures c.requires.entered c.step.ensures.told (search rules) (search rules)
 
 pub returns-clause-read : goal.returns-clause-read
 returns-clause-read g c = record { told = take_done c.loop-s.invariant (g.met.C.Carrier.laws c.loop-s.carrier) c.requires.entered c.in_default.ensures }
