@@ -31,13 +31,13 @@ Falls f w s = Letter f.group s × Descends f.group w s
 
 -- the search for the least descending letter among n
 pub lowest : (f : Frame) (at : Word → Type 0) → Laws f at → (w : Word) → at w → (n : ℕ) → n ≡ rank f.group → (r : Option ℕ)
-    → MatchOption r ((k : ℕ) → 1 ≤ k → k ≤ n → ¬ Falls f w k) (λ x. (1 ≤ x) × (x ≤ n) × Falls f w x × ((k : ℕ) → 1 ≤ k → k < x → ¬ Falls f w k)) → LowestLetter f.group w r
+    → MatchOption r ((k : ℕ) → 1 ≤ k → k < n + 1 → ¬ Falls f w k) (λ x. (1 ≤ x) × (x < n + 1) × Falls f w x × ((k : ℕ) → 1 ≤ k → k < x → ¬ Falls f w k)) → LowestLetter f.group w r
 lowest f at law w here n e r h = by r h
   where
     flat : (a : ℕ) → Letter f.group a → ¬ Falls f w a → negative (point f.group w a) ≡ false
     flat a l d = ⊎_elim (λ (k : negative (point f.group w a) ≡ true). absurd (d (l, (signs_descend f.group law.lawful w (law.letters w (law.within w here)) a l).0 k))) (λ k. k) (cases_Bool (negative (point f.group w a)))
 
-    by : (r : Option ℕ) → MatchOption r ((k : ℕ) → 1 ≤ k → k ≤ n → ¬ Falls f w k) (λ x. (1 ≤ x) × (x ≤ n) × Falls f w x × ((k : ℕ) → 1 ≤ k → k < x → ¬ Falls f w k)) → LowestLetter f.group w r
+    by : (r : Option ℕ) → MatchOption r ((k : ℕ) → 1 ≤ k → k < n + 1 → ¬ Falls f w k) (λ x. (1 ≤ x) × (x < n + 1) × Falls f w x × ((k : ℕ) → 1 ≤ k → k < x → ¬ Falls f w k)) → LowestLetter f.group w r
     by None h = λ a l. flat a l (h a l.from_one (let i = l.to_rank in omega arith))
     by (Some s) h =
         let d = h.2 in

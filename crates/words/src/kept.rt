@@ -8,7 +8,7 @@ ghost use Rattle.arrayvec.specs.ArrayVec.{array_vec_len};
 use arrayvec::ArrayVec;
 
 /// What is kept of letters that come one by one: each of them, or their number alone.
-// The number lies in a register: over a vector that it reads no letter of, `length` filled 4 KiB with blanks at each call.
+// A number lies in a register: over a vector, whose letters it does not read, `length` filled 4 KiB with blanks at each call.
 pub(crate) trait Kept {
     /// The number of the letters.
     ghost count: { Self → ℕ };

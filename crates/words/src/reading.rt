@@ -13,10 +13,11 @@ use crate::view::Formed;
 use carriers::carrier::Carrier;
 
 /// The least letter that descends where the carrier stands.
+// To n + 1 and not `1..=n`, which asks at each letter whether the range is used up.
 fn least_descending<C: Carrier>(carrier: &C) -> Option<u8>
     ensures { Found (C.Carrier.frame carrier.now).group (C.Carrier.at carrier.now) result }
 {
-    (1..=carrier.rank()).find(|s| carrier.descends(*s))
+    (1..carrier.rank() + 1).find(|s| carrier.descends(*s))
 }
 
 // The carrier, the word and the letters stay parameters: in a struct over them each clause would name the carrier by
