@@ -2,12 +2,18 @@
 
 #![tactic(auto)]
 
+ghost use Rattle.std.specs.Prelude.{◌+◌, length};
+ghost use Rattle.coxeter.specs.Groups.{rank as rank_of};
+ghost use Rattle.coxeter.specs.Matrices.{matrix};
+ghost use Rattle.coxeter.specs.Pairs.{Path};
+ghost use Rattle.carriers.specs.Openings.{Carried, Opens};
+
 use answers;
 use carriers::carrier::Carrier;
 use carriers::chamber::Chamber;
 use carriers::one_line::OneLine;
+use coxeter::group::Group;
 use jobs::answering::answer;
-use jobs::errors::JobError;
 use lines::located::Located;
 use lines::reader::{MOST_BYTES, Reader};
 use numbers::golden::Golden;
@@ -48,14 +54,30 @@ impl Run<'_> {
             };
             match answer(self.rt.alloc(), carrier, line.bytes) {
                 Ok(text) => self.print(text)?,
-                Err(JobError::Refused(fault)) => self.refuse(&Located {
-                    line: line.number,
-                    fault,
-                })?,
-                Err(JobError::Memory(error)) => return Err(io::Error::from(error)),
+                Err(error) => self.refuse(&error.at(line.number)?)?,
             }
         }
         Ok(())
+    }
+
+    // Answers the jobs on a chamber over the row. The check is asked, though a sheet's kind carries its group.
+    fn on_chamber<N: Number>(&mut self, group: Group, row: &mut [N]) -> io::Result<()>
+        requires { Opens (rank_of (matrix group)) (length row.old) (Carried N.Number.fits (matrix group)) }
+    {
+        match Chamber::check(&group, row) {
+            Ok(()) => self.jobs(&mut Chamber::make(group, row)),
+            Err(_) => unreachable!(),
+        }
+    }
+
+    // Answers the jobs in one-line notation over the row.
+    fn on_line(&mut self, group: Group, row: &mut [u8]) -> io::Result<()>
+        requires { Opens (rank_of (matrix group) + 1) (length row.old) (Path (matrix group)) }
+    {
+        match OneLine::check(&group, row) {
+            Ok(()) => self.jobs(&mut OneLine::make(group, row)),
+            Err(_) => unreachable!(),
+        }
     }
 
     // Answers the sheet, and the jobs behind it on the kind of carrier that it asks for.
@@ -63,9 +85,9 @@ impl Run<'_> {
         let group = sheet.group();
         self.print(answers::group(self.rt.alloc(), &group)?)?;
         match sheet.kind() {
-            Kind::Whole => self.jobs(&mut Chamber::make(group, &mut [Whole::one(); 8])),
-            Kind::Golden => self.jobs(&mut Chamber::make(group, &mut [Golden::one(); 8])),
-            Kind::Line => self.jobs(&mut OneLine::make(group, &mut [0; 9])),
+            Kind::Whole => self.on_chamber(group, &mut [Whole::one(); 8]),
+            Kind::Golden => self.on_chamber(group, &mut [Golden::one(); 8]),
+            Kind::Line => self.on_line(group, &mut [0; 9]),
         }
     }
 }

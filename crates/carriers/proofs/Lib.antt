@@ -1,5 +1,4 @@
 pub mod Values
-pub mod Made
 pub mod Exponents
 pub mod Standing
 pub mod Chambers

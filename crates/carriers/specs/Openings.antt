@@ -16,11 +16,15 @@ pub record Opens (n l : ℕ) (Fit : Type 0) : Type 0 where
   pub wide : n ≤ l
   pub kind : Fit
 
+-- the answer r over a row, a short row before another group: Yes is known behind a yes to the group, No behind a no
+abbrev pub Answered : ℕ → ℕ → Type 0 → Type 0 → Result (Unit {0}) OpenFault → Type 0
+Answered n l Yes No (Ok _) = Opens n l Yes
+Answered n l Yes No (Err Short) = l < n
+Answered n l Yes No (Err Kind) = (n ≤ l) × No
+
 -- the answer of the check, a short row before another group
 abbrev pub Opening : ℕ → ℕ → Type 0 → Result (Unit {0}) OpenFault → Type 0
-Opening n l Fit (Ok _) = Opens n l Fit
-Opening n l Fit (Err Short) = l < n
-Opening n l Fit (Err Kind) = (n ≤ l) × ¬ Fit
+Opening n l Fit r = Answered n l Fit (¬ Fit) r
 
 -- r is the answer of the check
 pub record Checked (n l : ℕ) (Fit : Type 0) (r : Result (Unit {0}) OpenFault) : Type 0 where

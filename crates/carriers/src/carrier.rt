@@ -23,7 +23,8 @@ pub trait Carrier {
 
     /// How many letters the group has.
     fn rank(&self) -> u8
-        ensures { result ≡ rank_of (frame self.now).group };
+        ensures told { result ≡ rank_of (frame self.now).group }
+        ensures laws { Laws (frame self.now) (at self.now) };
 
     /// The exponent of s and t: 0 for inf, 255 where one of them is no letter.
     // A number and not an enum: 0 and 255 are fixed by the interface, for every carrier.
@@ -37,12 +38,14 @@ pub trait Carrier {
 
     /// Makes the element the identity.
     fn home(&mut self)
-        ensures { BroughtHome frame at self.old self.new };
+        ensures home { BroughtHome frame at self.old self.new }
+        ensures laws { Laws (frame self.new) (at self.new) };
 
     /// Makes the element the element times s; a refusal changes nothing.
     fn step(&mut self, s: u8) -> Result<(), StepFault>
-        ensures { Stepped frame at self.old self.new s result };
+        ensures told { Stepped frame at self.old self.new s result }
+        ensures laws { Laws (frame self.new) (at self.new) };
 
-    /// The laws hold of every carrier.
+    /// The laws hold of every carrier. A call through `dyn Carrier` can't cite them, so `rank`, `home` and `step` tell them too.
     ghost laws: { (c : Self) → Laws (frame c) (at c) };
 }

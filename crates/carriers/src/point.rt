@@ -14,7 +14,9 @@ pub(crate) fn set_start<N: Number>(row: &mut [N])
     ensures { (i : ℕ) → i < length row.old → slice_index_or (map N.Number.value row.new) i nought ≡ integer (pos 1) }
 {
     let one = N::one();
-    row.fill_with(|| one);
+    for x in row.iter_mut() {
+        *x = one;
+    }
 }
 
 /// Is the number of the letter s negative?

@@ -1,66 +1,25 @@
 -- A rule that is asked of every letter of a table in turn: what its answers tell of the table's matrix.
-use Rattle.std.proofs.Common.{◌≡◌, ℕ, suc, ◌+◌, ◌-◌, ◌<◌, Bool, true, false, ◌⊎◌, List, Some, ◌∷◌, length, Decides, MatchBool, sym, refl, ap, ◌∙◌, subst, inl, inr, arith}
+use Rattle.std.proofs.Common.{◌≡◌, ℕ, ◌+◌, ◌-◌, ◌<◌, Bool, true, false, List, length, Decides, MatchBool, sym, refl, ap, ◌∙◌, subst, arith}
 use Rattle.std.specs.List.{range_with_len, AllWithin, HoldsAt}
-use Rattle.std.specs.Range.{range_inclusive_start, range_inclusive_end, range_inclusive_exhausted, range_inclusive_len, range_inclusive_left}
-use Rattle.std.specs.declared.ops.RangeInclusive.{RangeInclusive}
-use Rattle.std.proofs.lemmas.Bool.{cases_Bool}
 use Rattle.std.proofs.lemmas.List.FromFn.{get_or-range_with_len, length-range_with_len}
-use Rattle.std.proofs.lemmas.Iterator.{YieldsList}
-use Rattle.std.proofs.lemmas.Iterator.Consumers.{YieldsList-from_shown}
-use Rattle.std.proofs.iter.runs.Sources.{nat_range_inclusive_steps}
 use Rattle.coxeter.specs.Groups.{Matrix, Letter, exponent}
 use Rattle.coxeter.specs.Tables.{place, cut}
 use Rattle.coxeter.specs.Pairs.{EveryPair, TellsWith, TellsPairs}
 use Rattle.coxeter.proofs.Tests.{decides_false}
 use Rattle.coxeter.proofs.Matrices.{cut_letter, letter_within, cut_exponent}
 
--- ---- the numbers that `a..=b` gives
-one_more : (a b n m : ℕ) → n + 1 ≡ m → (n ≡ 0) ⊎ (b ≡ a + 1) → range_with_len a m ≡ a ∷ range_with_len b n
-one_more a b n m e h = ap (range_with_len a) more ∙ by h
-  where
-    more : m ≡ suc n
-    more = omega arith
-
-    by : (n ≡ 0) ⊎ (b ≡ a + 1) → a ∷ range_with_len (a + 1) n ≡ a ∷ range_with_len b n
-    by (inl z) = ap (λ k. a ∷ range_with_len (a + 1) k) z ∙ sym (ap (λ k. a ∷ range_with_len b k) z)
-    by (inr z) = ap (λ k. a ∷ range_with_len k n) (sym z)
-
--- how many numbers `a..=b` has left
-abbrev gap : ℕ → ℕ → ℕ
-gap x y = y - x
-
-stepped : (s t : RangeInclusive ℕ) (x : ℕ) → nat_range_inclusive_steps s (Some x) t
-    → range_with_len (range_inclusive_start s) (range_inclusive_left gap s) ≡ x ∷ range_with_len (range_inclusive_start t) (range_inclusive_left gap t)
-stepped s t x h =
-    one_more (range_inclusive_start s) (range_inclusive_start t) (range_inclusive_left gap t) (range_inclusive_left gap s) h.1.1 (by (cases_Bool (range_inclusive_exhausted t)))
-    ∙ ap (λ a. a ∷ range_with_len (range_inclusive_start t) (range_inclusive_left gap t)) (sym h.1.0)
-  where
-    by : (range_inclusive_exhausted t ≡ true) ⊎ (range_inclusive_exhausted t ≡ false) → (range_inclusive_left gap t ≡ 0) ⊎ (range_inclusive_start t ≡ range_inclusive_start s + 1)
-    by (inl z) = inl (ap (range_inclusive_len gap (range_inclusive_start t) (range_inclusive_end t)) z)
-    by (inr z) = inr (h.1.2 z)
-
-pub YieldsList-from_inclusive : (s : RangeInclusive ℕ) (n : ℕ) → ◌≡◌ {A = ℕ} (range_inclusive_start s) 1 → ◌≡◌ {A = ℕ} (range_inclusive_end s) n → range_inclusive_exhausted s ≡ false → YieldsList nat_range_inclusive_steps (λ x. x) s (range_with_len 1 n)
-YieldsList-from_inclusive s n e f d = subst (YieldsList nat_range_inclusive_steps (λ x. x) s) from_one
-    (YieldsList-from_shown nat_range_inclusive_steps (λ x. x) (λ r. range_with_len (range_inclusive_start r) (range_inclusive_left gap r)) (λ r u h. length-range_with_len _ _ ∙ h.1.0) (λ r x u h. stepped r u x h) s)
-  where
-    all_left : range_inclusive_left gap s ≡ n
-    all_left = omega (arith, e, f, ap (range_inclusive_len gap (range_inclusive_start s) (range_inclusive_end s)) d)
-
-    from_one : range_with_len (range_inclusive_start s) (range_inclusive_left gap s) ≡ range_with_len 1 n
-    from_one i = range_with_len (e i) (all_left i)
-
 module _ (n : ℕ) (rows : List (List ℕ)) where
-  -- ---- what `all` over the numbers 1 to n tells of the letters
+  -- ---- what `all` over the numbers below n tells of the letters, each by the number before it
   pub letters_told : (Yes No : ℕ → Type 0) (r : Bool)
-      → MatchBool r (AllWithin Yes (range_with_len 1 n) 0 (length (range_with_len 1 n))) ((k : ℕ) × (k < length (range_with_len 1 n)) × HoldsAt No (range_with_len 1 n) k)
+      → MatchBool r (AllWithin (λ i. Yes (i + 1)) (range_with_len 0 n) 0 (length (range_with_len 0 n))) ((k : ℕ) × (k < length (range_with_len 0 n)) × HoldsAt (λ i. No (i + 1)) (range_with_len 0 n) k)
       → MatchBool r ((s : ℕ) → Letter (cut n rows) s → Yes s) ((s : ℕ) × (Letter (cut n rows) s × No s))
   letters_told Yes No true h = λ s l.
       let b : s - 1 < n = omega (arith, l.from_one, letter_within n rows s l) in
-      let e : 1 + (s - 1) ≡ s = omega (arith, l.from_one) in
-      subst Yes (get_or-range_with_len 1 n (s - 1) 0 b ∙ e) (h (s - 1) 0 (omega arith) (omega (arith, b, length-range_with_len 1 n)))
+      let e : 0 + (s - 1) + 1 ≡ s = omega (arith, l.from_one) in
+      subst Yes (ap (λ (i : ℕ). i + 1) (get_or-range_with_len 0 n (s - 1) 0 b) ∙ e) (h (s - 1) 0 (omega arith) (omega (arith, b, length-range_with_len 0 n)))
   letters_told Yes No false h =
-      let b : h.0 < n = omega (arith, h.1, length-range_with_len 1 n) in
-      (1 + h.0, (cut_letter n rows (1 + h.0) (omega arith) (omega (arith, b)), subst No (get_or-range_with_len 1 n h.0 0 b) (h.2 0)))
+      let b : h.0 < n = omega (arith, h.1, length-range_with_len 0 n) in
+      (0 + h.0 + 1, (cut_letter n rows (0 + h.0 + 1) (omega arith) (omega (arith, b)), subst (λ (i : ℕ). No (i + 1)) (get_or-range_with_len 0 n h.0 0 b) (h.2 0)))
 
   -- ---- the same, of pairs, by what a rule says of them
   module _ (says : ℕ → ℕ → ℕ → ℕ → Bool → Type 0) where

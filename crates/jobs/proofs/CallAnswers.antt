@@ -4,7 +4,7 @@ use Rattle.std.specs.Result.{IsErrAnd}
 use Rattle.std.proofs.lemmas.List.{take_at}
 use Rattle.coxeter.specs.Moves.{Word}
 use Rattle.carriers.specs.Frames.{Frame}
-use Rattle.words.specs.Outcomes.{DescentsTold, Measured, Refused, Written}
+use Rattle.words.specs.Outcomes.{DescentsTold, Measured, Passed, Refused, Written}
 use Rattle.words.specs.declared.descents.Descents.{Descents}
 use Rattle.words.specs.declared.faults.WordFault.{WordFault}
 use Rattle.words.specs.declared.faults.WordFault.TheVariants.{Short, TooLong, Letter, Reach}
@@ -32,11 +32,15 @@ pub form_refused : {Z : Type 0} {f : Frame} {v w : Word} {before after : List �
 form_refused {f = f} {v = v} {before = before} {after = after} {e = e} key r word room x is =
     refused_by_word (FormJob key f _) r e is (subst (λ u. Refused f u e) word (refused_form f v before after e room x))
 
-pub form_answered : {Z : Type 0} {f : Frame} {v w : Word} {before after : List ℕ} {n : ℕ} {s : String Z} (key : List ℕ) → v ≡ w → Written f v before after (Ok n) → string_bytes s ≡ form_text key (take n after) → ByWord (FormJob key f w) (Ok s)
-form_answered {f = f} {before = before} {after = after} {n = n} {s = s} key word x text =
+-- the line of the buffer's front is the line of the form
+pub form_line_lem : {f : Frame} {w : Word} {before after : List ℕ} {n : ℕ} (key text : List ℕ) → Written f w before after (Ok n) → text ≡ form_text key (take n after) → (h : Word) × Passed f w h × (text ≡ form_text key h)
+form_line_lem {before = before} {n = n} key text x told =
     let y = x.wrote in
-    let front : take n after ≡ y.0 = ap (take n) y.4 ∙ take_at y.0 (drop n before) n (sym y.3) in
-    subst (λ u. ByWord (FormJob key f u) (Ok s)) word (record { answer = Ok s; told = (y.0, y.2, text ∙ ap (form_text key) front); same = refl })
+    (y.0, y.2, told ∙ ap (form_text key) (ap (take n) y.4 ∙ take_at y.0 (drop n before) n (sym y.3)))
+
+pub form_answered : {Z : Type 0} {f : Frame} {v w : Word} {before after : List ℕ} {n : ℕ} {s : String Z} (key : List ℕ) → v ≡ w → Written f v before after (Ok n) → string_bytes s ≡ form_text key (take n after) → ByWord (FormJob key f w) (Ok s)
+form_answered {f = f} {s = s} key word x text =
+    subst (λ u. ByWord (FormJob key f u) (Ok s)) word (record { answer = Ok s; told = form_line_lem key (string_bytes s) x text; same = refl })
 
 -- the job of a call that counts the letters of a form
 pub number_refused : {Z : Type 0} {f : Frame} {v w : Word} {e : WordFault} (key : List ℕ) (r : Result (String Z) JobError) → v ≡ w → Measured f v (Err e) → IsErrAnd r (λ x. x ≡ error.Refused (fault.Word e)) → Answered (ByWord (NumberJob key f w)) r

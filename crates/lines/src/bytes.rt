@@ -6,8 +6,9 @@ ghost use Rattle.lines.specs.Cuts.{Cut, Free};
 pub fn cut(s: &[u8], b: u8) -> Option<(&[u8], &[u8])>
     ensures { MatchOption result (Free b s.now) (λ p. Cut b s.now p.0.now p.1.now) }
 {
-    let n = s.iter().position(|x| *x == b)?;
-    Some((&s[..n], &s[n + 1..]))
+    // Where none equals it, n is the length: a search that answers `None` there has a slower loop.
+    let n = s.iter().position(|x| *x == b).unwrap_or(s.len());
+    (n < s.len()).then(|| (&s[..n], &s[n + 1..]))
 }
 
 /// Whether the two texts have the same bytes.

@@ -4,7 +4,10 @@ ghost use Rattle.lines.specs.Words.{OneWord, TwoWords};
 
 use crate::bytes::cut;
 
+// Both are inlined, since `job` would else clear the places of all its answers on each call.
+
 /// The one word of a value without a slash.
+#[inline(always)]
 pub fn one_word(value: &[u8]) -> Option<&[u8]>
     ensures { MatchOption result ((w : List ℕ) → OneWord value.now w → ⊥) (λ w. OneWord value.now w.now) }
 {
@@ -12,6 +15,7 @@ pub fn one_word(value: &[u8]) -> Option<&[u8]>
 }
 
 /// The two words of a value with one slash.
+#[inline(always)]
 pub fn two_words(value: &[u8]) -> Option<(&[u8], &[u8])>
     ensures { MatchOption result ((u v : List ℕ) → TwoWords value.now u v → ⊥) (λ p. TwoWords value.now p.0.now p.1.now) }
 {

@@ -12,6 +12,7 @@ use Rattle.carriers.specs.Frames.{Frame}
 use Rattle.words.specs.declared.faults.WordFault.{WordFault}
 use Rattle.words.specs.Outcomes.{Passed, Measured, Written}
 use Rattle.words.specs.Promises.{FormTold, LengthTold, DistanceTold}
+use Rattle.words.specs.Reading.{Read}
 
 pub told_of : {f : Frame} → Lawful f.group → {w : Word} {before after : List ℕ} {r : Result ℕ WordFault} → Written f w before after r → FormTold f.group w after r
 told_of {f = f} law {w = w} {before = before} {after = after} {r = Ok n} h =
@@ -39,6 +40,10 @@ apart_of {f = f} law u v {r = Ok n} h =
     let l = (lengths_of law h).told in
     record { told = (l, distances_decide f.group law u v n i (letters_rest f.group (reverse u) v k) l) }
 apart_of law u v {r = Err e} h = record { told = tt }
+
+-- the letters that a vector keeps are those of the form
+pub read_letters : {f : Frame} {w letters : Word} → Read f w (λ t. letters ≡ t) (Ok tt) → Passed f w (reverse letters)
+read_letters {f = f} {w = w} r = subst (λ t. Passed f w (reverse t)) (sym r.told.1) r.told.2
 
 -- the letters read off fit a buffer that has room for the word
 pub read_fits : {f : Frame} → Lawful f.group → {w : Word} (letters : Word) (n : ℕ) → Passed f w (reverse letters) → min (length w) 4096 ≤ n → length letters ≤ n

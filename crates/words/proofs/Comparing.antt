@@ -12,6 +12,7 @@ use Rattle.carriers.specs.Frames.{Frame}
 use Rattle.words.specs.declared.elements.Comparison.TheVariants.{Same, Unlike}
 use Rattle.words.specs.Promises.{Compared}
 use Rattle.words.specs.Reading.{Read}
+use Rattle.words.proofs.Answering.{read_letters}
 
 -- ---- groups
 pub answered_is : (g : Matrix) (s t : ℕ) → Letter g s → Letter g t → answered_exponent g s t ≡ exponent g s t
@@ -62,17 +63,17 @@ group_decided g h p q e r d = (
     over s l = let x = l.from_one in let y = l.to_rank in record { from_one = omega arith; to_rank = omega arith }
 
 -- ---- elements
-module _ (e f : Frame) (law : Lawful e.group) (same : e.group ≡ f.group) (u v a b : Word) (x : Read e u a (Ok tt)) (y : Read f v b (Ok tt)) where
+module _ (e f : Frame) (law : Lawful e.group) (same : e.group ≡ f.group) (u v a b : Word) (x : Read e u (λ t. a ≡ t) (Ok tt)) (y : Read f v (λ t. b ≡ t) (Ok tt)) where
   -- the letters read off are equal exactly when the words are joined
   both : (a ≡ b) ↔ Joined e.group u v
   both =
-      let p = x.told in
-      let q = y.told in
+      let p = read_letters x in
+      let q = read_letters y in
       let k = forms_decide e.group law u v (reverse a) (reverse b) p.entered.letters (subst (λ (g : Matrix). Letters g v) (sym same) q.entered.letters) p.formed (subst (λ (g : Matrix). Form g v (reverse b)) (sym same) q.formed) in
       (λ t. k.0 (ap reverse t), λ j. sym (reverse-reverse a) ∙ ap reverse (k.1 j) ∙ reverse-reverse b)
 
   pub compared_same : a ≡ b → Compared e f u v (Ok Same)
-  compared_same d = record { compares = (same, (reverse a, x.told), (reverse b, y.told), both.0 d) }
+  compared_same d = record { compares = (same, (reverse a, read_letters x), (reverse b, read_letters y), both.0 d) }
 
   pub compared_unlike : ¬ (a ≡ b) → Compared e f u v (Ok Unlike)
-  compared_unlike d = record { compares = (same, (reverse a, x.told), (reverse b, y.told), λ j. d (both.1 j)) }
+  compared_unlike d = record { compares = (same, (reverse a, read_letters x), (reverse b, read_letters y), λ j. d (both.1 j)) }

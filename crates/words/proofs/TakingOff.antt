@@ -31,13 +31,13 @@ Falls f w s = Letter f.group s × Descends f.group w s
 
 -- the search for the least descending letter among n
 pub lowest : (f : Frame) (at : Word → Type 0) → Laws f at → (w : Word) → at w → (n : ℕ) → n ≡ rank f.group → (r : Option ℕ)
-    → MatchOption r ((k : ℕ) → 1 ≤ k → k ≤ n → ¬ Falls f w k) (λ x. (1 ≤ x) × (x ≤ n) × Falls f w x × ((k : ℕ) → 1 ≤ k → k < x → ¬ Falls f w k)) → LowestLetter f.group w r
+    → MatchOption r ((k : ℕ) → 1 ≤ k → k < n + 1 → ¬ Falls f w k) (λ x. (1 ≤ x) × (x < n + 1) × Falls f w x × ((k : ℕ) → 1 ≤ k → k < x → ¬ Falls f w k)) → LowestLetter f.group w r
 lowest f at law w here n e r h = by r h
   where
     flat : (a : ℕ) → Letter f.group a → ¬ Falls f w a → negative (point f.group w a) ≡ false
     flat a l d = ⊎_elim (λ (k : negative (point f.group w a) ≡ true). absurd (d (l, (signs_descend f.group law.lawful w (law.letters w (law.within w here)) a l).0 k))) (λ k. k) (cases_Bool (negative (point f.group w a)))
 
-    by : (r : Option ℕ) → MatchOption r ((k : ℕ) → 1 ≤ k → k ≤ n → ¬ Falls f w k) (λ x. (1 ≤ x) × (x ≤ n) × Falls f w x × ((k : ℕ) → 1 ≤ k → k < x → ¬ Falls f w k)) → LowestLetter f.group w r
+    by : (r : Option ℕ) → MatchOption r ((k : ℕ) → 1 ≤ k → k < n + 1 → ¬ Falls f w k) (λ x. (1 ≤ x) × (x < n + 1) × Falls f w x × ((k : ℕ) → 1 ≤ k → k < x → ¬ Falls f w k)) → LowestLetter f.group w r
     by None h = λ a l. flat a l (h a l.from_one (let i = l.to_rank in omega arith))
     by (Some s) h =
         let d = h.2 in
@@ -144,11 +144,11 @@ pub record Taking {X : Type 0} (frame : X → Frame) (at : X → Word → Type 0
   pub leaving : Leaving f w form t
 
 module _ {X : Type 0} {frame : X → Frame} {at : X → Word → Type 0} {f : Frame} {w : Word} where
-  pub take_none : {x : X} {t : Word} → Laws (frame x) (at x) → frame x ≡ f → at x w → t ≡ [] → Taking frame at f w x t
-  take_none {x = x} {t = t} raw e here n =
+  pub take_none : {x : X} → Laws (frame x) (at x) → frame x ≡ f → at x w → Taking frame at f w x []
+  take_none {x = x} raw e here =
       let law : Laws f (at x) = subst (λ (h : Frame). Laws h (at x)) e raw in
       let r = forms_exist f.group law.lawful w (law.letters w (law.within w here)) in
-      subst (λ z. Taking frame at f w x z) (sym n) (record { same = e; here = subst (λ z. at x z) (sym (append-nil w)) here; form = r.0; formed = r.1; leaving = leave_none f (at x) law w r.0 here r.1 })
+      record { same = e; here = subst (λ z. at x z) (sym (append-nil w)) here; form = r.0; formed = r.1; leaving = leave_none f (at x) law w r.0 here r.1 }
 
   module _ {x : X} {t : Word} (now : Taking frame at f w x t) (raw : Laws (frame x) (at x)) where
     law : Laws f (at x)
@@ -161,26 +161,26 @@ module _ {X : Type 0} {frame : X → Frame} {at : X → Word → Type 0} {f : Fr
       pub take_room : length t < length w
       take_room = omega (arith, leave_room f (at x) law w now.form t s now.here now.leaving least, now.formed.no_longer)
 
-      pub take_more : {y : X} {r : Result (Unit {0}) StepFault} {u : Word} → Stepped frame at x y s r → is_ok r ≡ true → u ≡ t ++ (s ∷ []) → Taking frame at f w y u
-      take_more {y = y} {r = Ok _} c o e =
+      pub take_more : {y : X} {r : Result (Unit {0}) StepFault} → Stepped frame at x y s r → is_ok r ≡ true → Taking frame at f w y (t ++ (s ∷ []))
+      take_more {y = y} {r = Ok _} c o =
           let m = c.took.1 (w ++ t) now.here in
           let i : f.reach ((w ++ t) ++ (s ∷ [])) ≡ true = subst (λ (h : Frame). h.reach ((w ++ t) ++ (s ∷ [])) ≡ true) now.same m.0 in
-          subst (λ z. Taking frame at f w y z) (sym e) (record {
+          record {
             same = c.same ∙ now.same;
             here = subst (λ z. at y z) (append_assoc w t (s ∷ [])) m.1;
             form = now.form;
             formed = now.formed;
             leaving = leave_more f (at x) law w now.form t s now.here now.leaving least i;
-          })
-      take_more {r = Err e} c o d = absurd (both_ways false refl o)
+          }
+      take_more {r = Err e} c o = absurd (both_ways false refl o)
 
       -- a step by a letter of the group is refused by the reach alone
-      pub take_fails : Entered f w → {y : X} {r : Result (Unit {0}) StepFault} {more : Word} {q : Result (Unit {0}) WordFault} → Stepped frame at x y s r → is_ok r ≡ false → q ≡ Err (Reach (length w + length t)) → Read f w more q
+      pub take_fails : Entered f w → {y : X} {r : Result (Unit {0}) StepFault} {kept : Word → Type 0} {q : Result (Unit {0}) WordFault} → Stepped frame at x y s r → is_ok r ≡ false → q ≡ Err (Reach (length w + length t)) → Read f w kept q
       take_fails n {r = Ok _} c o e = absurd (both_ways true o refl)
       take_fails n {r = Err NoLetter} c o e = absurd (c.took.1 (subst (λ (h : Frame). Letter h.group s) (sym now.same) least.letter))
-      take_fails n {r = Err OutOfReach} {more = more} c o e =
+      take_fails n {r = Err OutOfReach} {kept = kept} c o e =
           let i : f.reach ((w ++ t) ++ (s ∷ [])) ≡ false = subst (λ (h : Frame). h.reach ((w ++ t) ++ (s ∷ [])) ≡ false) now.same (c.took.2 (w ++ t) now.here) in
-          subst (λ z. Read f w more z) (sym e) (record { told = inr (length t, refl, leave_fails f (at x) law w now.form t s now.here now.leaving least n now.formed.form i) })
+          subst (λ z. Read f w kept z) (sym e) (record { told = inr (length t, refl, leave_fails f (at x) law w now.form t s now.here now.leaving least n now.formed.form i) })
 
     pub take_done : Entered f w → Found (frame x).group (at x) None → Passed f w (reverse t)
     take_done n found = leave_done f w now.form t n now.formed.form now.leaving (subst (λ (h : Frame). Bare h.group (w ++ t)) now.same (found.found (w ++ t) now.here))

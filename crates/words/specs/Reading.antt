@@ -21,11 +21,11 @@ LowestLetter g w (Some s) = Least g (point g w) s
 pub record Found (g : Matrix) (at : Word → Type 0) (r : Option ℕ) : Type 0 where
   pub found : (w : Word) → at w → LowestLetter g w r
 
--- the form of w was read off, the last letter first, or w is refused
-abbrev pub ReadOff : Frame → Word → Word → Result (Unit {0}) WordFault → Type 0
-ReadOff f w letters (Ok _) = Passed f w (reverse letters)
-ReadOff f w letters (Err e) = Refused f w e
+-- the form of w was read off, the last letter first, and its letters are kept; or w is refused
+abbrev pub ReadOff : Frame → Word → (Word → Type 0) → Result (Unit {0}) WordFault → Type 0
+ReadOff f w kept (Ok _) = (letters : Word) × kept letters × Passed f w (reverse letters)
+ReadOff f w kept (Err e) = Refused f w e
 
--- r tells whether the letters were read off
-pub record Read (f : Frame) (w letters : Word) (r : Result (Unit {0}) WordFault) : Type 0 where
-  pub told : ReadOff f w letters r
+-- r tells whether letters that are kept were read off
+pub record Read (f : Frame) (w : Word) (kept : Word → Type 0) (r : Result (Unit {0}) WordFault) : Type 0 where
+  pub told : ReadOff f w kept r

@@ -46,9 +46,9 @@ fn measure<C: Carrier>(carrier: &mut C, word: Formed) -> Result<usize, WordFault
     ensures home { BroughtHome C.Carrier.frame C.Carrier.at carrier.old carrier.new }
     ensures measured { Measured (C.Carrier.frame carrier.old) (letters_of word.entry) result }
 {
-    let mut letters = ArrayVec::new();
-    read_form(carrier, word, &mut letters)?;
-    Ok(letters.len())
+    let mut count = 0usize;
+    read_form(carrier, word, &mut count)?;
+    Ok(count)
 }
 
 /// The form of the word formed, at the front of `out`.

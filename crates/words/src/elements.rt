@@ -24,10 +24,12 @@ pub enum Comparison {
 }
 
 /// Has s the same exponents in both groups, with every letter of the first?
+// To n + 1 and not `1..=n`, here and below: that range asks at each number whether it is used up, and over empty
+// words `same_element` took a fifth longer.
 fn same_exponents<C: Carrier, D: Carrier>(c: &C, d: &D, s: u8) -> bool
     ensures { Decides result ((t : ℕ) → Letter (C.Carrier.frame c.now).group t → answered_exponent (C.Carrier.frame c.now).group s t ≡ answered_exponent (D.Carrier.frame d.now).group s t) }
 {
-    (1..=c.rank()).all(|t| c.exponent(s, t) == d.exponent(s, t))
+    (1..c.rank() + 1).all(|t| c.exponent(s, t) == d.exponent(s, t))
 }
 
 /// Are the two carriers of one group?
@@ -35,7 +37,7 @@ pub fn same_group<C: Carrier, D: Carrier>(c: &C, d: &D) -> bool
     ensures { Decides result ((C.Carrier.frame c.now).group ≡ (D.Carrier.frame d.now).group) }
 {
     let n = c.rank();
-    n == d.rank() && (1..=n).all(|s| same_exponents(c, d, s))
+    n == d.rank() && (1..n + 1).all(|s| same_exponents(c, d, s))
 }
 
 /// Do the two words name one element? The carrier c takes u, and d takes v. Both are left at home.

@@ -6,6 +6,7 @@ pub mod calls;
 pub mod descents;
 pub mod elements;
 pub mod faults;
+mod kept;
 mod reading;
 mod stepping;
 pub mod theorems;

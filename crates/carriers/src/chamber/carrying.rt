@@ -1,7 +1,7 @@
 //! The chamber as a carrier.
 
 ghost use Rattle.std.specs.Prelude.{◌≡◌};
-ghost use Rattle.carriers.specs.Carriers.{BroughtHome, Stepped};
+ghost use Rattle.carriers.specs.Carriers.{BroughtHome, Laws, Stepped};
 ghost use Rattle.carriers.specs.CarrierLaws.{chamber_laws};
 ghost use Rattle.carriers.specs.Chambers.{chamber_frame, chamber_at, chamber_beyond};
 
@@ -33,6 +33,7 @@ impl<'a, N: Number> Carrier for Chamber<'a, N> {
 
     fn home(&mut self)
         ensures home { BroughtHome (chamber_frame N.Number.fits) (chamber_at N.Number.value) self.old self.new }
+        ensures laws { Laws (chamber_frame N.Number.fits self.new) (chamber_at N.Number.value self.new) }
         ensures beyond { chamber_beyond self.new ≡ chamber_beyond self.old }
     {
         let n = self.group.rank() as usize;
@@ -41,6 +42,7 @@ impl<'a, N: Number> Carrier for Chamber<'a, N> {
 
     fn step(&mut self, s: u8) -> Result<(), StepFault>
         ensures told { Stepped (chamber_frame N.Number.fits) (chamber_at N.Number.value) self.old self.new s result }
+        ensures laws { Laws (chamber_frame N.Number.fits self.new) (chamber_at N.Number.value self.new) }
         ensures beyond { chamber_beyond self.new ≡ chamber_beyond self.old }
     {
         if !self.group.has_letter(s) {

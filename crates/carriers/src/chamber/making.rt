@@ -21,11 +21,9 @@ impl<'a, N: Number> Chamber<'a, N> {
     pub fn check(group: &Group, row: &[N]) -> Result<(), OpenFault>
         ensures { Checked (rank_of (matrix group.now)) (length row.now) (Carried N.Number.fits (matrix group.now)) result }
     {
-        opening(
-            row.len(),
-            group.rank() as usize,
-            N::holds_golden() || group.without_five(),
-        )
+        opening(row.len(), group.rank() as usize, || {
+            N::holds_golden() || group.without_five()
+        })
     }
 
     /// A chamber at home, behind an accepted check.

@@ -1,7 +1,7 @@
 //! One-line notation as a carrier.
 
 ghost use Rattle.std.specs.Prelude.{◌≡◌};
-ghost use Rattle.carriers.specs.Carriers.{BroughtHome, Stepped};
+ghost use Rattle.carriers.specs.Carriers.{BroughtHome, Laws, Stepped};
 ghost use Rattle.carriers.specs.CarrierLaws.{line_laws};
 ghost use Rattle.carriers.specs.OneLines.{line_frame, line_at, line_beyond};
 
@@ -32,6 +32,7 @@ impl<'a> Carrier for OneLine<'a> {
 
     fn home(&mut self)
         ensures home { BroughtHome line_frame line_at self.old self.new }
+        ensures laws { Laws (line_frame self.new) (line_at self.new) }
         ensures beyond { line_beyond self.new ≡ line_beyond self.old }
     {
         let n = self.group.rank() as usize;
@@ -40,6 +41,7 @@ impl<'a> Carrier for OneLine<'a> {
 
     fn step(&mut self, s: u8) -> Result<(), StepFault>
         ensures told { Stepped line_frame line_at self.old self.new s result }
+        ensures laws { Laws (line_frame self.new) (line_at self.new) }
         ensures beyond { line_beyond self.new ≡ line_beyond self.old }
     {
         if !self.group.has_letter(s) {

@@ -20,7 +20,7 @@ impl<'a> OneLine<'a> {
     pub fn check(group: &Group, row: &[u8]) -> Result<(), OpenFault>
         ensures { Checked (rank_of (matrix group.now) + 1) (length row.now) (Path (matrix group.now)) result }
     {
-        opening(row.len(), group.rank() as usize + 1, group.is_path())
+        opening(row.len(), group.rank() as usize + 1, || group.is_path())
     }
 
     /// One-line notation at home, behind an accepted check.

@@ -56,10 +56,12 @@ impl Group {
         ensures { Decides result (Path (matrix self.now)) }
     {
         self.table().every_pair(|s, t, m, _| {
-            m == match s.abs_diff(t) {
-                0 => 1,
-                1 => 3,
-                _ => 2,
+            if s == t {
+                m == 1
+            } else if s < t && t - s == 1 || t < s && s - t == 1 {
+                m == 3
+            } else {
+                m == 2
             }
         })
     }

@@ -5,8 +5,8 @@ use Rattle.coxeter.proofs.Matrices.{cut_rank}
 use Rattle.atlas.proofs.SheetCarriers.{line_carries}
 use Rattle.atlas.proofs.Run.sheet.Goals as goal
 
-pub make-requires-in-Line : goal.make-requires-in-Line
-make-requires-in-Line c =
+pub on_line-requires : goal.on_line-requires
+on_line-requires c =
     let wide = cut_rank c.group-group.result.rank c.group-group.result.rows in
     record {
       wide = omega (arith, wide, c.group-group.result.few);

@@ -6,7 +6,7 @@ use Rattle.carriers.proofs.point.step_point.Goals as goal
 pub loop-i-preserved : goal.loop-i-preserved
 loop-i-preserved g c = (
   simp length-set c.loop-i.invariant.0,
-  taken_more g.N.Number.value nought c.args.row.now c.loop-i.fresh c.args.column.now c.args.s c.loop-i.i c.x-item.result c.index-row-s.result c.in_ok-fresh.field-0 (omega arith) (omega arith) (omega arith) c.x-item.is c.index-row-s.is
+  taken_more g.N.Number.value nought c.args.row.now c.loop-i.fresh c.args.column.now c.args.s c.loop-i.i c.x-item.result c.index-row-s.result _ (omega arith) (omega arith) (omega arith) c.x-item.is c.index-row-s.is
       (search rules) c.loop-i.invariant.1,
 )
 

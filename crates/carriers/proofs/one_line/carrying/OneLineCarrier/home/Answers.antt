@@ -3,6 +3,7 @@ use Rattle.std.proofs.lemmas.List.{get_or_append_left, length-take-le}
 use Rattle.coxeter.specs.Matrices.{matrix}
 use Rattle.carriers.specs.CarrierLaws.{matrix_rank}
 use Rattle.carriers.proofs.Exchanges.{home_stands}
+use Rattle.carriers.specs.CarrierLaws.{line_laws}
 use Rattle.carriers.proofs.one_line.carrying.OneLineCarrier.home.Goals as goal
 
 pub returns-clause-home : goal.returns-clause-home
@@ -18,3 +19,6 @@ returns-clause-home c =
       same = refl;
       here = home_stands (matrix x.group) (front ++ rest) (λ i h. get_or_append_left front rest 0 i (omega arith) ∙ c.set_rising.ensures i (omega arith));
     }
+
+pub returns-clause-laws : goal.returns-clause-laws
+returns-clause-laws c = line_laws c.args.self.now.group _
